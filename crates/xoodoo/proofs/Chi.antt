@@ -1,0 +1,62 @@
+-- One word of chi: its bound, that chi undoes itself, and that it may be done in place.
+use mathlib.Core.Path.{_≡_, refl, sym, ap, _∙_}
+use Prim.Native.Nat.{ℕ, _^_, _<_, min}
+use lib.Bits.{differ}
+use lib.Pow.{ones-sub-lt}
+use Rattle.laws.specs.Words.{_⊕_, _⊙_, not32}
+use Rattle.laws.proofs.Words.{⊕-lt, ⊙-lt, not-and, bit-⊕, bit-⊙, bit-ext, bits3}
+use Rattle.xoodoo.specs.Xoodoo.{gain}
+
+pub gain-lt : {a c : ℕ} (b : ℕ) → a < 2 ^ 32 → c < 2 ^ 32 → gain a b c < 2 ^ 32
+unfolding gain not32
+gain-lt b ha hc = ⊕-lt 32 ha (⊙-lt 32 (ones-sub-lt 32 b) hc)
+
+-- the same without not: no bounds are needed from here on
+gain′ : ℕ → ℕ → ℕ → ℕ
+gain′ a b c = a ⊕ (c ⊕ (b ⊙ c))
+
+gain-is : (a b c : ℕ) → b < 2 ^ 32 → c < 2 ^ 32 → gain a b c ≡ gain′ a b c
+unfolding gain gain′ not32
+gain-is a b c hb hc = ap (λ (x : ℕ). a ⊕ x) (not-and 32 b c hb hc)
+
+-- and on a bit
+gain1 : ℕ → ℕ → ℕ → ℕ
+gain1 a b c = differ a (differ c (min b c))
+
+-- an identity of the three words of a column, by its eight cases on bits
+gain′-back : (a b c : ℕ) → gain′ (gain′ a b c) (gain′ b c a) (gain′ c a b) ≡ a
+unfolding gain′ gain1
+gain′-back a b c =
+    bit-ext _ _ (λ i. simp (bit-⊕, bit-⊙)
+    (bits3 (λ x y z. gain1 (gain1 x y z) (gain1 y z x) (gain1 z x y)) (λ x y z. x)
+    (refl, refl, refl, refl, refl, refl, refl, refl) i a b c))
+
+pub gain-back : (a b c : ℕ) → a < 2 ^ 32 → b < 2 ^ 32 → c < 2 ^ 32 → gain (gain a b c) (gain b c a) (gain c a b) ≡ a
+gain-back a b c ha hb hc =
+    gain-is _ _ _ (gain-lt c hb ha) (gain-lt a hc hb)
+    ∙ rw (gain-is a b c hb hc, gain-is b c a hc ha, gain-is c a b ha hb) (gain′-back a b c)
+
+-- ---- in place, a word is read after another was changed: the result is the same
+gain′-second : (a b c : ℕ) → gain′ b c (gain′ a b c) ≡ gain′ b c a
+unfolding gain′ gain1
+gain′-second a b c =
+    bit-ext _ _ (λ i. simp (bit-⊕, bit-⊙)
+    (bits3 (λ x y z. gain1 y z (gain1 x y z)) (λ x y z. gain1 y z x)
+    (refl, refl, refl, refl, refl, refl, refl, refl) i a b c))
+
+gain′-third : (a b c : ℕ) → gain′ c (gain′ a b c) (gain′ b c a) ≡ gain′ c a b
+unfolding gain′ gain1
+gain′-third a b c =
+    bit-ext _ _ (λ i. simp (bit-⊕, bit-⊙)
+    (bits3 (λ x y z. gain1 z (gain1 x y z) (gain1 y z x)) (λ x y z. gain1 z x y)
+    (refl, refl, refl, refl, refl, refl, refl, refl) i a b c))
+
+pub gain-second : (a b c : ℕ) → a < 2 ^ 32 → b < 2 ^ 32 → c < 2 ^ 32 → gain b c (gain a b c) ≡ gain b c a
+gain-second a b c ha hb hc =
+    gain-is b c _ hc (gain-lt b ha hc) ∙ rw (gain-is a b c hb hc) (gain′-second a b c)
+    ∙ sym (gain-is b c a hc ha)
+
+pub gain-third : (a b c : ℕ) → a < 2 ^ 32 → b < 2 ^ 32 → c < 2 ^ 32 → gain c (gain a b c) (gain b c a) ≡ gain c a b
+gain-third a b c ha hb hc =
+    gain-is c _ _ (gain-lt b ha hc) (gain-lt c hb ha) ∙ rw (gain-is a b c hb hc, gain-is b c a hc ha) (gain′-third a b c)
+    ∙ sym (gain-is c a b ha hb)

@@ -1,0 +1,3 @@
+-- What the crate promises, in definitions.
+pub mod Xoodoo
+pub mod Calls

@@ -1,0 +1,116 @@
+// Xoodoo: the permutation of 48 bytes, its inverse, and the calls on its bytes.
+ghost use mathlib.Core.Path.{_≡_};
+ghost use lib.ListN.{replicate};
+ghost use Rattle.xoodoo.specs.Xoodoo as xoodoo;
+ghost use Rattle.xoodoo.specs.Calls.{addByteOf, addBytesOf, extractBytesOf};
+
+mod round;
+mod unround;
+mod words;
+
+use crate::round::rounds;
+use crate::unround::unrounds;
+use crate::words::load;
+use crate::words::store;
+
+// The 48 bytes.
+pub struct Xoodoo {
+    pub st: [u8; 48],
+}
+
+// A state, and 0, or 6 where the call was refused and the state is the one that was given.
+pub struct Answer {
+    pub state: Xoodoo,
+    pub number: u8,
+}
+
+impl Xoodoo {
+    // 48 zeros.
+    pub fn default() -> Xoodoo
+        ensures { λ r. ⌜ r ≡ record { st = replicate 48 0 } ⌝ }
+    {
+        Xoodoo { st: [0; 48] }
+    }
+
+    pub fn from_bytes(bytes: [u8; 48]) -> Xoodoo
+        ensures { λ r. ⌜ r ≡ record { st = bytes } ⌝ }
+    {
+        Xoodoo { st: bytes }
+    }
+
+    pub fn bytes(self, out: &mut [u8; 48])
+        ensures { λ _. ⌜ now (out .exit) ≡ self .st ⌝ }
+    {
+        let st = self.st;
+        *out = st;
+    }
+
+    pub fn add_byte(self, byte: u8, offset: usize) -> Answer
+        ensures { λ r. ⌜ r ≡ addByteOf self byte offset ⌝ }
+    {
+        if offset <= 47 {
+            let mut t = self;
+            t.st[offset] = t.st[offset] ^ byte;
+            return Answer {
+                state: t,
+                number: 0,
+            };
+        }
+        Answer {
+            state: self,
+            number: 6,
+        }
+    }
+
+    pub fn add_bytes(self, bytes: &[u8]) -> Answer
+        ensures { λ r. ⌜ r ≡ addBytesOf self (now (bytes .entry)) ⌝ }
+    {
+        if bytes.len() <= 48 {
+            let mut t = self;
+            let mut i: usize = 0;
+            while i < bytes.len() {
+                t.st[i] = t.st[i] ^ bytes[i];
+                i += 1;
+            }
+            return Answer {
+                state: t,
+                number: 0,
+            };
+        }
+        Answer {
+            state: self,
+            number: 6,
+        }
+    }
+
+    pub fn extract_bytes(self, out: &mut [u8]) -> u8
+        ensures { λ r. ⌜ r ≡ extractBytesOf self (now (out .entry)) .number ⌝ }
+        ensures { λ _. ⌜ now (out .exit) ≡ extractBytesOf self (now (out .entry)) .bytes ⌝ }
+    {
+        if out.len() <= 48 {
+            let mut i: usize = 0;
+            while i < out.len() {
+                out[i] = self.st[i];
+                i += 1;
+            }
+            return 0;
+        }
+        6
+    }
+
+    pub fn permute(self) -> Xoodoo
+        ensures { λ r. ⌜ r ≡ record { st = xoodoo.xoodoo (self .st) } ⌝ }
+    {
+        let st = self.st;
+        let after = store(rounds(load(&st)));
+        Xoodoo { st: after }
+    }
+
+    pub fn inverse(self) -> Xoodoo
+        ensures { λ r. ⌜ r ≡ record { st = xoodoo.inverse (self .st) } ⌝ }
+    {
+        let st = self.st;
+        let before = store(unrounds(load(&st)));
+        Xoodoo { st: before }
+    }
+}
