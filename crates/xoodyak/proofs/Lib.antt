@@ -1,0 +1,5 @@
+-- Laws of sessions that the functions' proofs cite.
+pub mod Turns
+pub mod Same
+pub mod Settle
+pub mod Sealing

@@ -1,0 +1,19 @@
+-- Refused in Hash; in Keyed the state is ratcheted.
+use Rattle.xoodyak.specs.Calls.{answerOf, ratchetOf}
+use Rattle.xoodyak.proofs.Settle.{answer-taken, answer-refused}
+use borrow.Author.Needs.{needs}
+use Rattle.xoodyak.proofs.Session.ratchet.Statement.{statement}
+use Rattle.xoodyak.proofs.Session.ratchet.Tie as tie
+
+returns : tie.Need-returns
+unfolding ratchetOf
+returns c = answer-refused _ _ (c .before .before .mode-number .ensures) _ _ _ answerOf _ (c .before .if1 .taken) (c .answer .ensures)
+
+returns-2 : tie.Need-returns-2
+unfolding ratchetOf
+returns-2 c =
+    answer-taken _ _ (c .before .before .before .before .mode-number .ensures) _ _ _ answerOf _ (c .before .before .before .if1 .left)
+    (rw (c .answer2 .ensures, c .before .onward .ensures, c .before .before .ratchet .ensures))
+
+pub ratchet-spec : {M : Type 1} → statement M
+ratchet-spec = tie.close (tie.spec (λ c κs. search needs) (λ c κs. search needs) returns (λ c κs. search needs) (λ c κs. search needs) (λ c κs. search needs) returns-2)

@@ -1,0 +1,4 @@
+-- What a reader must believe of sessions.
+pub mod Cyclist
+pub mod Numbers
+pub mod Calls

@@ -1,0 +1,39 @@
+-- The numbers handed back: a definition for each family, and which of several is given.
+use mathlib.Core.Bool.{Bool, true, false}
+use Prim.Native.Nat.{ℕ, zero, suc, _+_}
+use lib.Dec.{ltb}
+use Rattle.xoodyak.specs.declared.cyclist.Mode.{Mode}
+use Rattle.xoodyak.specs.declared.cyclist.Mode.the-variants.{Hash, Keyed}
+use Rattle.xoodyak.specs.Cyclist.{absorbRate}
+
+-- the number n if the test says so, 0 otherwise
+abbrev pub when : Bool → ℕ → ℕ
+when true n = n
+when false n = 0
+
+-- the first refusal of two
+abbrev pub first : ℕ → ℕ → ℕ
+first zero b = b
+first (suc a) b = suc a
+
+-- 1: a keyed-only call meets a Hash session
+abbrev pub modeNumber : Mode → ℕ
+modeNumber Hash = 1
+modeNumber Keyed = 0
+
+-- 2: key + 1 + key id + nonce exceeds 44
+unfoldable pub keyNumber : ℕ → ℕ → ℕ → ℕ
+keyNumber key id nonce = when (ltb 44 (key + 1 + id + nonce)) 2
+
+-- 3: the output is shorter than its result
+unfoldable pub roomNumber : ℕ → ℕ → ℕ
+roomNumber room result = when (ltb room result) 3
+
+-- 3: the input of a combined open, or the buffer of a combined in-place call, is under 16
+unfoldable pub tailNumber : ℕ → ℕ
+tailNumber size = when (ltb size 16) 3
+
+-- 5: the rate is 0 or above the session's absorb rate
+unfoldable pub rateNumber : Mode → ℕ → ℕ
+rateNumber m zero = 5
+rateNumber m (suc r) = when (ltb (absorbRate m) (suc r)) 5

@@ -1,0 +1,61 @@
+// Hash sessions, and the calls that both modes have.
+ghost use mathlib.Core.Path.{_≡_};
+ghost use Rattle.xoodyak.specs.declared.cyclist.Mode.the-variants.{Hash};
+ghost use Rattle.xoodyak.specs.Calls.{session, answerOf, absorbOf, absorbMoreOf, squeezeOf, squeezeMoreOf};
+use crate::Answer;
+use crate::Session;
+use crate::cyclist::Duplex;
+use crate::cyclist::Mode;
+
+impl Session {
+    pub fn hash() -> Session
+        ensures { λ r. ⌜ r ≡ session Hash ⌝ }
+    {
+        Session {
+            duplex: Duplex::fresh(Mode::Hash),
+        }
+    }
+
+    pub fn absorb(self, bin: &[u8]) -> Answer
+        ensures { λ r. ⌜ r ≡ answerOf (absorbOf self (now (bin .entry))) ⌝ }
+    {
+        let d = self.duplex;
+        let rate = d.absorb_rate();
+        self.onward(d.absorb_any(bin, rate, 0x03)).answer(0)
+    }
+
+    pub fn absorb_more(self, bin: &[u8], rate: usize) -> Answer
+        ensures { λ r. ⌜ r ≡ answerOf (absorbMoreOf self (now (bin .entry)) rate) ⌝ }
+    {
+        let d = self.duplex;
+        let number = self.rate_number(rate);
+        if number != 0 {
+            return self.answer(number);
+        }
+        self.onward(d.absorb_more(bin, rate)).answer(0)
+    }
+
+    pub fn squeeze(self, out: &mut [u8]) -> Answer
+        ensures { λ r. ⌜ r ≡ answerOf (squeezeOf 0x40 self (now (out .entry))) ⌝ }
+        ensures { λ _. ⌜ now (out .exit) ≡ squeezeOf 0x40 self (now (out .entry)) .bytes ⌝ }
+    {
+        let d = self.duplex;
+        self.onward(d.squeeze_any(out, 0x40)).answer(0)
+    }
+
+    pub fn squeeze_key(self, out: &mut [u8]) -> Answer
+        ensures { λ r. ⌜ r ≡ answerOf (squeezeOf 0x20 self (now (out .entry))) ⌝ }
+        ensures { λ _. ⌜ now (out .exit) ≡ squeezeOf 0x20 self (now (out .entry)) .bytes ⌝ }
+    {
+        let d = self.duplex;
+        self.onward(d.squeeze_any(out, 0x20)).answer(0)
+    }
+
+    pub fn squeeze_more(self, out: &mut [u8]) -> Answer
+        ensures { λ r. ⌜ r ≡ answerOf (squeezeMoreOf self (now (out .entry))) ⌝ }
+        ensures { λ _. ⌜ now (out .exit) ≡ squeezeMoreOf self (now (out .entry)) .bytes ⌝ }
+    {
+        let d = self.duplex;
+        self.onward(d.squeeze_more(out)).answer(0)
+    }
+}

@@ -1,0 +1,58 @@
+// Xoodyak: sessions that absorb, squeeze, encrypt and seal, over the permutation's promise.
+pub mod aead;
+pub mod bytes;
+pub mod cyclist;
+pub mod hash;
+pub mod keyed;
+pub mod numbers;
+pub mod tag;
+
+ghost use mathlib.Core.Path.{_≡_};
+ghost use Rattle.xoodyak.specs.Calls.{onward};
+use cyclist::Duplex;
+use tag::Tag;
+
+pub struct Session {
+    pub duplex: Duplex,
+}
+
+// What a call hands back: the session, and 0 or the number of the refusal.
+pub struct Answer {
+    pub session: Session,
+    pub number: u8,
+}
+
+// The same with the tag of what was sealed; a refusal has a tag of zeros.
+pub struct Sealed {
+    pub session: Session,
+    pub number: u8,
+    pub tag: Tag,
+}
+
+impl Session {
+    // The session with its bytes and phase moved on.
+    pub(crate) fn onward(self, duplex: Duplex) -> Session
+        ensures { λ r. ⌜ r ≡ onward self duplex ⌝ }
+    {
+        Session { duplex: duplex }
+    }
+
+    pub(crate) fn answer(self, number: u8) -> Answer
+        ensures { λ r. ⌜ r ≡ record { session = self; number = number } ⌝ }
+    {
+        Answer {
+            session: self,
+            number: number,
+        }
+    }
+
+    pub(crate) fn sealed(self, number: u8, tag: Tag) -> Sealed
+        ensures { λ r. ⌜ r ≡ record { session = self; number = number; tag = tag } ⌝ }
+    {
+        Sealed {
+            session: self,
+            number: number,
+            tag: tag,
+        }
+    }
+}

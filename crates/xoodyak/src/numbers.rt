@@ -1,0 +1,63 @@
+// The numbers of refusals; 0 is success.
+ghost use mathlib.Core.Path.{_≡_};
+ghost use Rattle.xoodyak.specs.Numbers.{first, modeNumber, keyNumber, roomNumber, tailNumber, rateNumber};
+ghost use Rattle.xoodyak.specs.Calls.{mode};
+use crate::Session;
+use crate::cyclist::Mode;
+
+pub(crate) fn first(a: u8, b: u8) -> u8
+    ensures { λ r. ⌜ r ≡ first a b ⌝ }
+{
+    if a == 0 { b } else { a }
+}
+
+// Each length is tested by itself first, so that no sum of lengths wraps.
+pub(crate) fn key_number(key: usize, id: usize, nonce: usize) -> u8
+    ensures { λ r. ⌜ r ≡ keyNumber key id nonce ⌝ }
+{
+    if key > 43 {
+        return 2;
+    }
+    if id > 43 {
+        return 2;
+    }
+    if nonce > 43 {
+        return 2;
+    }
+    if key + 1 + id + nonce > 44 { 2 } else { 0 }
+}
+
+pub(crate) fn room_number(room: usize, result: usize) -> u8
+    ensures { λ r. ⌜ r ≡ roomNumber room result ⌝ }
+{
+    if room < result { 3 } else { 0 }
+}
+
+pub(crate) fn tail_number(size: usize) -> u8
+    ensures { λ r. ⌜ r ≡ tailNumber size ⌝ }
+{
+    if size < 16 { 3 } else { 0 }
+}
+
+impl Session {
+    pub(crate) fn mode_number(self) -> u8
+        ensures { λ r. ⌜ r ≡ modeNumber (mode self) ⌝ }
+    {
+        let d = self.duplex;
+        let mode = d.mode;
+        match mode {
+            Mode::Hash => 1,
+            Mode::Keyed => 0,
+        }
+    }
+
+    pub(crate) fn rate_number(self, rate: usize) -> u8
+        ensures { λ r. ⌜ r ≡ rateNumber (mode self) rate ⌝ }
+    {
+        if rate == 0 {
+            return 5;
+        }
+        let d = self.duplex;
+        if d.absorb_rate() < rate { 5 } else { 0 }
+    }
+}
