@@ -1,0 +1,53 @@
+-- Refused in Hash; otherwise the tag, which came last, is undone first.
+use mathlib.Core.Path.{_≡_, sym, _∙_}
+use native.Mathlib.Omega.{arith}
+use denote.Ref.{now}
+use Rattle.xoodyak.specs.Cyclist.{messageBlocks}
+use Rattle.walkback.specs.Walk.{seals, callNumber, steps, back}
+use Rattle.walkback.proofs.Undoing.{append-undone}
+use Rattle.walkback.proofs.Settling.{before-taken, before-refused}
+use borrow.Author.Needs.{needs}
+use Rattle.walkback.proofs.seal.Statement.{statement}
+use Rattle.walkback.proofs.seal.Tie as tie
+
+mode-number-requires : tie.Need-mode-number-requires
+mode-number-requires c κs = search needs
+
+refused-requires : tie.Need-refused-requires
+refused-requires c κs = search needs
+
+returns : tie.Need-returns
+unfolding callNumber
+returns c =
+    let a = c .before .before .before .before .args in
+    before-refused (a .mode) (a .phase) (seals (now (a .plaintext))) (a .st) _ _ (c .before .before .mode-number .ensures) (omega arith) (c .refused .ensures)
+
+undo-squeeze-requires : tie.Need-undo-squeeze-requires
+undo-squeeze-requires c κs = search needs
+
+undo-blocks-requires : tie.Need-undo-blocks-requires
+undo-blocks-requires c κs = search needs
+
+accepted-requires : tie.Need-accepted-requires
+accepted-requires c κs = search needs
+
+returns-2 : tie.Need-returns-2
+unfolding callNumber steps back messageBlocks
+returns-2 c =
+    let z : c .before .before .before .before .mode-number .result ≡ 0 = omega arith in
+    let a = c .before .before .before .before .before .before .args in
+    before-taken (a .mode) (a .phase) (seals (now (a .plaintext))) (a .st) _ _ (sym (c .before .before .before .before .mode-number .ensures) ∙ z)
+    (append-undone (a .mode) _ _ (a .st) _ _ (c .before .before .undo-squeeze .ensures) (c .before .undo-blocks .ensures))
+    (c .accepted .ensures)
+
+pub seal-spec : {M : Type 1} → statement M
+seal-spec =
+    tie.close
+    (tie.spec
+    mode-number-requires
+    refused-requires
+    returns
+    undo-squeeze-requires
+    undo-blocks-requires
+    accepted-requires
+    returns-2)

@@ -1,0 +1,3 @@
+-- What a reader must believe of walking back.
+pub mod Steps
+pub mod Walk

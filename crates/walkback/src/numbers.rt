@@ -1,0 +1,63 @@
+// The numbers of refusals, 0 being success, and the rates of a mode.
+ghost use mathlib.Core.Path.{_≡_};
+ghost use Rattle.xoodyak.specs.Cyclist.{absorbRate, squeezeRate};
+ghost use Rattle.xoodyak.specs.Numbers.{first, modeNumber, keyNumber, rateNumber};
+use xoodyak::cyclist::Mode;
+
+pub(crate) fn absorb_rate(mode: Mode) -> usize
+    ensures { λ r. ⌜ r ≡ absorbRate mode ⌝ }
+{
+    match mode {
+        Mode::Hash => 16,
+        Mode::Keyed => 44,
+    }
+}
+
+pub(crate) fn squeeze_rate(mode: Mode) -> usize
+    ensures { λ r. ⌜ r ≡ squeezeRate mode ⌝ }
+{
+    match mode {
+        Mode::Hash => 16,
+        Mode::Keyed => 24,
+    }
+}
+
+pub(crate) fn first(a: u8, b: u8) -> u8
+    ensures { λ r. ⌜ r ≡ first a b ⌝ }
+{
+    if a == 0 { b } else { a }
+}
+
+pub(crate) fn mode_number(mode: Mode) -> u8
+    ensures { λ r. ⌜ r ≡ modeNumber mode ⌝ }
+{
+    match mode {
+        Mode::Hash => 1,
+        Mode::Keyed => 0,
+    }
+}
+
+// Each length is tested by itself first, so that no sum of lengths wraps.
+pub(crate) fn key_number(key: usize, id: usize, nonce: usize) -> u8
+    ensures { λ r. ⌜ r ≡ keyNumber key id nonce ⌝ }
+{
+    if key > 43 {
+        return 2;
+    }
+    if id > 43 {
+        return 2;
+    }
+    if nonce > 43 {
+        return 2;
+    }
+    if key + 1 + id + nonce > 44 { 2 } else { 0 }
+}
+
+pub(crate) fn rate_number(mode: Mode, rate: usize) -> u8
+    ensures { λ r. ⌜ r ≡ rateNumber mode rate ⌝ }
+{
+    if rate == 0 {
+        return 5;
+    }
+    if absorb_rate(mode) < rate { 5 } else { 0 }
+}
