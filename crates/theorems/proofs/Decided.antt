@@ -1,0 +1,222 @@
+-- Two results that a promise allows are equal, for each public call.
+use mathlib.Core.Path.{_≡_}
+use Rattle.theorems.proofs.Decides.{Decides, once, twice}
+use Rattle.xoodoo.proofs.Xoodoo.default.Reads as xoodoo-default
+use Rattle.xoodoo.proofs.Xoodoo.default.Kinds as xoodoo-default-k
+use Rattle.xoodoo.proofs.Xoodoo.from_bytes.Reads as xoodoo-from-bytes
+use Rattle.xoodoo.proofs.Xoodoo.from_bytes.Kinds as xoodoo-from-bytes-k
+use Rattle.xoodoo.proofs.Xoodoo.bytes.Reads as xoodoo-bytes
+use Rattle.xoodoo.proofs.Xoodoo.bytes.Kinds as xoodoo-bytes-k
+use Rattle.xoodoo.proofs.Xoodoo.add_byte.Reads as xoodoo-add-byte
+use Rattle.xoodoo.proofs.Xoodoo.add_byte.Kinds as xoodoo-add-byte-k
+use Rattle.xoodoo.proofs.Xoodoo.add_bytes.Reads as xoodoo-add-bytes
+use Rattle.xoodoo.proofs.Xoodoo.add_bytes.Kinds as xoodoo-add-bytes-k
+use Rattle.xoodoo.proofs.Xoodoo.extract_bytes.Reads as xoodoo-extract-bytes
+use Rattle.xoodoo.proofs.Xoodoo.extract_bytes.Kinds as xoodoo-extract-bytes-k
+use Rattle.xoodoo.proofs.Xoodoo.permute.Reads as xoodoo-permute
+use Rattle.xoodoo.proofs.Xoodoo.permute.Kinds as xoodoo-permute-k
+use Rattle.xoodoo.proofs.Xoodoo.inverse.Reads as xoodoo-inverse
+use Rattle.xoodoo.proofs.Xoodoo.inverse.Kinds as xoodoo-inverse-k
+use Rattle.xoodyak.proofs.Session.hash.Reads as hash
+use Rattle.xoodyak.proofs.Session.hash.Kinds as hash-k
+use Rattle.xoodyak.proofs.Session.new.Reads as new
+use Rattle.xoodyak.proofs.Session.new.Kinds as new-k
+use Rattle.xoodyak.proofs.Session.absorb.Reads as absorb
+use Rattle.xoodyak.proofs.Session.absorb.Kinds as absorb-k
+use Rattle.xoodyak.proofs.Session.absorb_more.Reads as absorb-more
+use Rattle.xoodyak.proofs.Session.absorb_more.Kinds as absorb-more-k
+use Rattle.xoodyak.proofs.Session.absorb_key_and_nonce.Reads as absorb-key-and-nonce
+use Rattle.xoodyak.proofs.Session.absorb_key_and_nonce.Kinds as absorb-key-and-nonce-k
+use Rattle.xoodyak.proofs.Session.ratchet.Reads as ratchet
+use Rattle.xoodyak.proofs.Session.ratchet.Kinds as ratchet-k
+use Rattle.xoodyak.proofs.Session.squeeze.Reads as squeeze
+use Rattle.xoodyak.proofs.Session.squeeze.Kinds as squeeze-k
+use Rattle.xoodyak.proofs.Session.squeeze_key.Reads as squeeze-key
+use Rattle.xoodyak.proofs.Session.squeeze_key.Kinds as squeeze-key-k
+use Rattle.xoodyak.proofs.Session.squeeze_more.Reads as squeeze-more
+use Rattle.xoodyak.proofs.Session.squeeze_more.Kinds as squeeze-more-k
+use Rattle.xoodyak.proofs.Session.encrypt.Reads as encrypt
+use Rattle.xoodyak.proofs.Session.encrypt.Kinds as encrypt-k
+use Rattle.xoodyak.proofs.Session.decrypt.Reads as decrypt
+use Rattle.xoodyak.proofs.Session.decrypt.Kinds as decrypt-k
+use Rattle.xoodyak.proofs.Session.encrypt_in_place.Reads as encrypt-in-place
+use Rattle.xoodyak.proofs.Session.encrypt_in_place.Kinds as encrypt-in-place-k
+use Rattle.xoodyak.proofs.Session.decrypt_in_place.Reads as decrypt-in-place
+use Rattle.xoodyak.proofs.Session.decrypt_in_place.Kinds as decrypt-in-place-k
+use Rattle.xoodyak.proofs.Session.aead_encrypt_detached.Reads as aead-encrypt-detached
+use Rattle.xoodyak.proofs.Session.aead_encrypt_detached.Kinds as aead-encrypt-detached-k
+use Rattle.xoodyak.proofs.Session.aead_encrypt.Reads as aead-encrypt
+use Rattle.xoodyak.proofs.Session.aead_encrypt.Kinds as aead-encrypt-k
+use Rattle.xoodyak.proofs.Session.aead_encrypt_in_place_detached.Reads as aead-encrypt-in-place-detached
+use Rattle.xoodyak.proofs.Session.aead_encrypt_in_place_detached.Kinds as aead-encrypt-in-place-detached-k
+use Rattle.xoodyak.proofs.Session.aead_encrypt_in_place.Reads as aead-encrypt-in-place
+use Rattle.xoodyak.proofs.Session.aead_encrypt_in_place.Kinds as aead-encrypt-in-place-k
+use Rattle.xoodyak.proofs.Session.aead_decrypt_detached.Reads as aead-decrypt-detached
+use Rattle.xoodyak.proofs.Session.aead_decrypt_detached.Kinds as aead-decrypt-detached-k
+use Rattle.xoodyak.proofs.Session.aead_decrypt.Reads as aead-decrypt
+use Rattle.xoodyak.proofs.Session.aead_decrypt.Kinds as aead-decrypt-k
+use Rattle.xoodyak.proofs.Session.aead_decrypt_in_place_detached.Reads as aead-decrypt-in-place-detached
+use Rattle.xoodyak.proofs.Session.aead_decrypt_in_place_detached.Kinds as aead-decrypt-in-place-detached-k
+use Rattle.xoodyak.proofs.Session.aead_decrypt_in_place.Reads as aead-decrypt-in-place
+use Rattle.xoodyak.proofs.Session.aead_decrypt_in_place.Kinds as aead-decrypt-in-place-k
+use Rattle.xoodyak.proofs.aead.plaintext_part.Reads as plaintext-part
+use Rattle.xoodyak.proofs.aead.plaintext_part.Kinds as plaintext-part-k
+use Rattle.xoodyak.proofs.tag.Tag.default.Reads as tag-default
+use Rattle.xoodyak.proofs.tag.Tag.default.Kinds as tag-default-k
+use Rattle.xoodyak.proofs.tag.Tag.from_bytes.Reads as tag-from-bytes
+use Rattle.xoodyak.proofs.tag.Tag.from_bytes.Kinds as tag-from-bytes-k
+use Rattle.xoodyak.proofs.tag.Tag.into_bytes.Reads as tag-into-bytes
+use Rattle.xoodyak.proofs.tag.Tag.into_bytes.Kinds as tag-into-bytes-k
+use Rattle.xoodyak.proofs.tag.Tag.verify.Reads as tag-verify
+use Rattle.xoodyak.proofs.tag.Tag.verify.Kinds as tag-verify-k
+use Rattle.walkback.proofs.absorb.Reads as back-absorb
+use Rattle.walkback.proofs.absorb.Kinds as back-absorb-k
+use Rattle.walkback.proofs.absorb_more.Reads as back-absorb-more
+use Rattle.walkback.proofs.absorb_more.Kinds as back-absorb-more-k
+use Rattle.walkback.proofs.squeeze.Reads as back-squeeze
+use Rattle.walkback.proofs.squeeze.Kinds as back-squeeze-k
+use Rattle.walkback.proofs.squeeze_key.Reads as back-squeeze-key
+use Rattle.walkback.proofs.squeeze_key.Kinds as back-squeeze-key-k
+use Rattle.walkback.proofs.squeeze_more.Reads as back-squeeze-more
+use Rattle.walkback.proofs.squeeze_more.Kinds as back-squeeze-more-k
+use Rattle.walkback.proofs.key.Reads as back-key
+use Rattle.walkback.proofs.key.Kinds as back-key-k
+use Rattle.walkback.proofs.encrypt.Reads as back-encrypt
+use Rattle.walkback.proofs.encrypt.Kinds as back-encrypt-k
+use Rattle.walkback.proofs.seal.Reads as back-seal
+use Rattle.walkback.proofs.seal.Kinds as back-seal-k
+use Rattle.walkback.proofs.phase_after.Reads as back-phase-after
+use Rattle.walkback.proofs.phase_after.Kinds as back-phase-after-k
+
+-- ---- the permutation
+pub xoodoo-default-decided : Decides 0 xoodoo-default-k.ps xoodoo-default-k.r xoodoo-default.Post (λ κs x x′ e e′. x ≡ x′)
+xoodoo-default-decided κs a x x′ e e′ = once
+
+pub xoodoo-from-bytes-decided : Decides 0 xoodoo-from-bytes-k.ps xoodoo-from-bytes-k.r xoodoo-from-bytes.Post (λ κs x x′ e e′. x ≡ x′)
+xoodoo-from-bytes-decided κs a x x′ e e′ = once
+
+pub xoodoo-bytes-decided : Decides 1 xoodoo-bytes-k.ps xoodoo-bytes-k.r xoodoo-bytes.Post (λ κs x x′ e e′. e .1 .0 .now ≡ e′ .1 .0 .now)
+xoodoo-bytes-decided κs a x x′ e e′ = once
+
+pub xoodoo-add-byte-decided : Decides 0 xoodoo-add-byte-k.ps xoodoo-add-byte-k.r xoodoo-add-byte.Post (λ κs x x′ e e′. x ≡ x′)
+xoodoo-add-byte-decided κs a x x′ e e′ = once
+
+pub xoodoo-add-bytes-decided : Decides 1 xoodoo-add-bytes-k.ps xoodoo-add-bytes-k.r xoodoo-add-bytes.Post (λ κs x x′ e e′. x ≡ x′)
+xoodoo-add-bytes-decided κs a x x′ e e′ = once
+
+pub xoodoo-extract-bytes-decided : Decides 1 xoodoo-extract-bytes-k.ps xoodoo-extract-bytes-k.r xoodoo-extract-bytes.Post (λ κs x x′ e e′. (x ≡ x′) × (e .1 .0 .now ≡ e′ .1 .0 .now))
+xoodoo-extract-bytes-decided κs a x x′ e e′ = twice
+
+pub xoodoo-permute-decided : Decides 0 xoodoo-permute-k.ps xoodoo-permute-k.r xoodoo-permute.Post (λ κs x x′ e e′. x ≡ x′)
+xoodoo-permute-decided κs a x x′ e e′ = once
+
+pub xoodoo-inverse-decided : Decides 0 xoodoo-inverse-k.ps xoodoo-inverse-k.r xoodoo-inverse.Post (λ κs x x′ e e′. x ≡ x′)
+xoodoo-inverse-decided κs a x x′ e e′ = once
+
+-- ---- sessions
+pub hash-decided : Decides 0 hash-k.ps hash-k.r hash.Post (λ κs x x′ e e′. x ≡ x′)
+hash-decided κs a x x′ e e′ = once
+
+pub new-decided : Decides 3 new-k.ps new-k.r new.Post (λ κs x x′ e e′. x ≡ x′)
+new-decided κs a x x′ e e′ = once
+
+pub absorb-decided : Decides 1 absorb-k.ps absorb-k.r absorb.Post (λ κs x x′ e e′. x ≡ x′)
+absorb-decided κs a x x′ e e′ = once
+
+pub absorb-more-decided : Decides 1 absorb-more-k.ps absorb-more-k.r absorb-more.Post (λ κs x x′ e e′. x ≡ x′)
+absorb-more-decided κs a x x′ e e′ = once
+
+pub absorb-key-and-nonce-decided : Decides 3 absorb-key-and-nonce-k.ps absorb-key-and-nonce-k.r absorb-key-and-nonce.Post (λ κs x x′ e e′. x ≡ x′)
+absorb-key-and-nonce-decided κs a x x′ e e′ = once
+
+pub ratchet-decided : Decides 0 ratchet-k.ps ratchet-k.r ratchet.Post (λ κs x x′ e e′. x ≡ x′)
+ratchet-decided κs a x x′ e e′ = once
+
+pub squeeze-decided : Decides 1 squeeze-k.ps squeeze-k.r squeeze.Post (λ κs x x′ e e′. (x ≡ x′) × (e .1 .0 .now ≡ e′ .1 .0 .now))
+squeeze-decided κs a x x′ e e′ = twice
+
+pub squeeze-key-decided : Decides 1 squeeze-key-k.ps squeeze-key-k.r squeeze-key.Post (λ κs x x′ e e′. (x ≡ x′) × (e .1 .0 .now ≡ e′ .1 .0 .now))
+squeeze-key-decided κs a x x′ e e′ = twice
+
+pub squeeze-more-decided : Decides 1 squeeze-more-k.ps squeeze-more-k.r squeeze-more.Post (λ κs x x′ e e′. (x ≡ x′) × (e .1 .0 .now ≡ e′ .1 .0 .now))
+squeeze-more-decided κs a x x′ e e′ = twice
+
+pub encrypt-decided : Decides 2 encrypt-k.ps encrypt-k.r encrypt.Post (λ κs x x′ e e′. (x ≡ x′) × (e .1 .0 .now ≡ e′ .1 .0 .now))
+encrypt-decided κs a x x′ e e′ = twice
+
+pub decrypt-decided : Decides 2 decrypt-k.ps decrypt-k.r decrypt.Post (λ κs x x′ e e′. (x ≡ x′) × (e .1 .0 .now ≡ e′ .1 .0 .now))
+decrypt-decided κs a x x′ e e′ = twice
+
+pub encrypt-in-place-decided : Decides 1 encrypt-in-place-k.ps encrypt-in-place-k.r encrypt-in-place.Post (λ κs x x′ e e′. (x ≡ x′) × (e .1 .0 .now ≡ e′ .1 .0 .now))
+encrypt-in-place-decided κs a x x′ e e′ = twice
+
+pub decrypt-in-place-decided : Decides 1 decrypt-in-place-k.ps decrypt-in-place-k.r decrypt-in-place.Post (λ κs x x′ e e′. (x ≡ x′) × (e .1 .0 .now ≡ e′ .1 .0 .now))
+decrypt-in-place-decided κs a x x′ e e′ = twice
+
+pub aead-encrypt-detached-decided : Decides 2 aead-encrypt-detached-k.ps aead-encrypt-detached-k.r aead-encrypt-detached.Post (λ κs x x′ e e′. (x ≡ x′) × (e .1 .0 .now ≡ e′ .1 .0 .now))
+aead-encrypt-detached-decided κs a x x′ e e′ = twice
+
+pub aead-encrypt-decided : Decides 2 aead-encrypt-k.ps aead-encrypt-k.r aead-encrypt.Post (λ κs x x′ e e′. (x ≡ x′) × (e .1 .0 .now ≡ e′ .1 .0 .now))
+aead-encrypt-decided κs a x x′ e e′ = twice
+
+pub aead-encrypt-in-place-detached-decided : Decides 1 aead-encrypt-in-place-detached-k.ps aead-encrypt-in-place-detached-k.r aead-encrypt-in-place-detached.Post (λ κs x x′ e e′. (x ≡ x′) × (e .1 .0 .now ≡ e′ .1 .0 .now))
+aead-encrypt-in-place-detached-decided κs a x x′ e e′ = twice
+
+pub aead-encrypt-in-place-decided : Decides 1 aead-encrypt-in-place-k.ps aead-encrypt-in-place-k.r aead-encrypt-in-place.Post (λ κs x x′ e e′. (x ≡ x′) × (e .1 .0 .now ≡ e′ .1 .0 .now))
+aead-encrypt-in-place-decided κs a x x′ e e′ = twice
+
+pub aead-decrypt-detached-decided : Decides 2 aead-decrypt-detached-k.ps aead-decrypt-detached-k.r aead-decrypt-detached.Post (λ κs x x′ e e′. (x ≡ x′) × (e .1 .0 .now ≡ e′ .1 .0 .now))
+aead-decrypt-detached-decided κs a x x′ e e′ = twice
+
+pub aead-decrypt-decided : Decides 2 aead-decrypt-k.ps aead-decrypt-k.r aead-decrypt.Post (λ κs x x′ e e′. (x ≡ x′) × (e .1 .0 .now ≡ e′ .1 .0 .now))
+aead-decrypt-decided κs a x x′ e e′ = twice
+
+pub aead-decrypt-in-place-detached-decided : Decides 1 aead-decrypt-in-place-detached-k.ps aead-decrypt-in-place-detached-k.r aead-decrypt-in-place-detached.Post (λ κs x x′ e e′. (x ≡ x′) × (e .1 .0 .now ≡ e′ .1 .0 .now))
+aead-decrypt-in-place-detached-decided κs a x x′ e e′ = twice
+
+pub aead-decrypt-in-place-decided : Decides 1 aead-decrypt-in-place-k.ps aead-decrypt-in-place-k.r aead-decrypt-in-place.Post (λ κs x x′ e e′. (x ≡ x′) × (e .1 .0 .now ≡ e′ .1 .0 .now))
+aead-decrypt-in-place-decided κs a x x′ e e′ = twice
+
+pub plaintext-part-decided : Decides 1 plaintext-part-k.ps plaintext-part-k.r plaintext-part.Post (λ κs x x′ e e′. (x .ptr ≡ x′ .ptr) × (x .now ≡ x′ .now))
+plaintext-part-decided κs a x x′ e e′ = twice
+
+-- ---- the tag
+pub tag-default-decided : Decides 0 tag-default-k.ps tag-default-k.r tag-default.Post (λ κs x x′ e e′. x ≡ x′)
+tag-default-decided κs a x x′ e e′ = once
+
+pub tag-from-bytes-decided : Decides 0 tag-from-bytes-k.ps tag-from-bytes-k.r tag-from-bytes.Post (λ κs x x′ e e′. x ≡ x′)
+tag-from-bytes-decided κs a x x′ e e′ = once
+
+pub tag-into-bytes-decided : Decides 0 tag-into-bytes-k.ps tag-into-bytes-k.r tag-into-bytes.Post (λ κs x x′ e e′. x ≡ x′)
+tag-into-bytes-decided κs a x x′ e e′ = once
+
+pub tag-verify-decided : Decides 0 tag-verify-k.ps tag-verify-k.r tag-verify.Post (λ κs x x′ e e′. x ≡ x′)
+tag-verify-decided κs a x x′ e e′ = once
+
+-- ---- walking back
+pub back-absorb-decided : Decides 1 back-absorb-k.ps back-absorb-k.r back-absorb.Post (λ κs x x′ e e′. x ≡ x′)
+back-absorb-decided κs a x x′ e e′ = once
+
+pub back-absorb-more-decided : Decides 1 back-absorb-more-k.ps back-absorb-more-k.r back-absorb-more.Post (λ κs x x′ e e′. x ≡ x′)
+back-absorb-more-decided κs a x x′ e e′ = once
+
+pub back-squeeze-decided : Decides 0 back-squeeze-k.ps back-squeeze-k.r back-squeeze.Post (λ κs x x′ e e′. x ≡ x′)
+back-squeeze-decided κs a x x′ e e′ = once
+
+pub back-squeeze-key-decided : Decides 0 back-squeeze-key-k.ps back-squeeze-key-k.r back-squeeze-key.Post (λ κs x x′ e e′. x ≡ x′)
+back-squeeze-key-decided κs a x x′ e e′ = once
+
+pub back-squeeze-more-decided : Decides 0 back-squeeze-more-k.ps back-squeeze-more-k.r back-squeeze-more.Post (λ κs x x′ e e′. x ≡ x′)
+back-squeeze-more-decided κs a x x′ e e′ = once
+
+pub back-key-decided : Decides 3 back-key-k.ps back-key-k.r back-key.Post (λ κs x x′ e e′. x ≡ x′)
+back-key-decided κs a x x′ e e′ = once
+
+pub back-encrypt-decided : Decides 1 back-encrypt-k.ps back-encrypt-k.r back-encrypt.Post (λ κs x x′ e e′. x ≡ x′)
+back-encrypt-decided κs a x x′ e e′ = once
+
+pub back-seal-decided : Decides 1 back-seal-k.ps back-seal-k.r back-seal.Post (λ κs x x′ e e′. x ≡ x′)
+back-seal-decided κs a x x′ e e′ = once
+
+pub back-phase-after-decided : Decides 0 back-phase-after-k.ps back-phase-after-k.r back-phase-after.Post (λ κs x x′ e e′. x ≡ x′)
+back-phase-after-decided κs a x x′ e e′ = once

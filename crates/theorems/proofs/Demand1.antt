@@ -1,0 +1,324 @@
+-- Demand 1: the numbers, each given exactly when the table says, and that a refused call leaves everything as it was.
+use mathlib.Core.Path.{_≡_, refl, sym, ap, _∙_}
+use mathlib.Core.Bool.{Bool, true, false, not}
+use mathlib.Core.List.{List, [], _∷_, _++_}
+use mathlib.Core.Logic.{_↔_, _≢_, _⊎_, inl, inr, ⊎-elim}
+use Prim.Native.Nat.{ℕ, zero, suc, _+_, _-_, _<_}
+use native.Mathlib.Omega.{arith}
+use lib.Dec.{ltb, eqb}
+use lib.ListN.{length}
+use borrow.Author.Tests.{ltb-true, ltb-false, eq-eqb}
+use Rattle.xoodyak.specs.declared.cyclist.Mode.{Mode}
+use Rattle.xoodyak.specs.declared.cyclist.Mode.the-variants.{Hash, Keyed}
+use Rattle.xoodyak.specs.declared.tag.Tag.{Tag}
+use Rattle.xoodyak.specs.declared.Session.{Session}
+use Rattle.xoodyak.specs.Cyclist.{absorbRate, given}
+use Rattle.xoodyak.specs.Numbers.{when, first, modeNumber, keyNumber, roomNumber, tailNumber, rateNumber}
+use Rattle.xoodyak.specs.Calls.{Outcome, refused, settle, session, mode, both, opened, tagOut, decryptEnd, verifyOf, absorbOf, absorbMoreOf, squeezeOf, squeezeMoreOf, keyOf, newOf, ratchetOf, encryptOf, decryptOf, encryptInPlaceOf, decryptInPlaceOf, sealDetachedOf, sealOf, sealInPlaceDetachedOf, sealInPlaceOf, openDetachedOf, openOf, openInPlaceDetachedOf, openInPlaceOf}
+use Rattle.theorems.proofs.Crypt.{allBut16, last16, first-zero, both-true, Decides, tag-decides, opened-decides}
+
+-- ---- the table
+-- a number, and the condition under which it is given
+abbrev pub Row : Type 1
+Row = ℕ × Type 0
+
+-- `before` says that no earlier row's condition holds
+abbrev pub From : Type 0 → ℕ → List Row → Type 0
+From before n [] = (n ≡ 0) ↔ before
+From before n (r ∷ rows) = ((n ≡ r .0) ↔ (before × r .1)) × From (before × (¬ (r .1))) n rows
+
+-- n is the number of a row exactly when its condition holds and no earlier one's does, and 0 exactly when none does
+abbrev pub Exactly : ℕ → List Row → Type 0
+Exactly n rows = From (Unit {0}) n rows
+
+-- a call with outcome x on session s and buffer o: its number is by the rows; after 1, 2, 3, 5 session and buffer hold what they held
+-- and any tag is zeros
+pub record Answers (x : Outcome) (s : Session) (o : List ℕ) (rows : List Row) : Type 0 where
+  pub number : Exactly (x .number) rows
+  pub refusal : x .number ≢ 0 → x .number ≢ 4 → x ≡ refused s (x .number) o
+
+-- a session that isn't in Hash is Keyed
+pub keyed-iff : (m : Mode) → (m ≢ Hash) ↔ (m ≡ Keyed)
+keyed-iff Hash = (λ n. absurd (n refl), λ e h. let z : _≡_ {A = ℕ} 0 1 = cc in omega arith)
+keyed-iff Keyed = (λ n. refl, λ e h. let z : _≡_ {A = ℕ} 0 1 = cc in omega arith)
+
+-- ---- how a table is proved
+-- n is the number of the first row whose condition holds, and 0 where none does
+data First (n : ℕ) : List Row → Type 1 where
+  here : {r : Row} {rows : List Row} → r .1 → n ≡ r .0 → First n (r ∷ rows)
+  later : {r : Row} {rows : List Row} → (¬ (r .1)) → First n rows → First n (r ∷ rows)
+  none : n ≡ 0 → First n []
+
+-- k is neither 0 nor a number of the rows
+abbrev apart : ℕ → List Row → Bool
+apart k [] = not (eqb k 0)
+apart k (r ∷ rows) = both (not (eqb k (r .0))) (apart k rows)
+
+-- the numbers of the rows differ, and none is 0
+abbrev distinct : List Row → Bool
+distinct [] = true
+distinct (r ∷ rows) = both (apart (r .0) rows) (distinct rows)
+
+not-true : (b : Bool) → not b ≡ true → b ≡ true → ⊥
+not-true b p q = let z : _≡_ {A = ℕ} 0 1 = cc (ap not q) in omega arith
+
+differ : (a b : ℕ) → not (eqb a b) ≡ true → a ≢ b
+differ a b h e = not-true (eqb a b) h (eq-eqb a b e)
+
+module _ (k : ℕ) (r : Row) (rows : List Row) (h : apart k (r ∷ rows) ≡ true) where
+  apart-head : k ≢ r .0
+  apart-head = differ k (r .0) (both-true (not (eqb k (r .0))) (apart k rows) h .0)
+
+  apart-tail : apart k rows ≡ true
+  apart-tail = both-true (not (eqb k (r .0))) (apart k rows) h .1
+
+module _ (r : Row) (rows : List Row) (h : distinct (r ∷ rows) ≡ true) where
+  distinct-head : apart (r .0) rows ≡ true
+  distinct-head = both-true (apart (r .0) rows) (distinct rows) h .0
+
+  distinct-tail : distinct rows ≡ true
+  distinct-tail = both-true (apart (r .0) rows) (distinct rows) h .1
+
+apart-zero : (k : ℕ) (rows : List Row) → apart k rows ≡ true → k ≢ 0
+apart-zero k [] h = differ k 0 h
+apart-zero k (r ∷ rows) h = apart-zero k rows (apart-tail k r rows h)
+
+apart-first : {n : ℕ} {rows : List Row} (k : ℕ) → First n rows → apart k rows ≡ true → n ≢ k
+apart-first k (none f) h e = differ k 0 h (sym e ∙ f)
+apart-first k (here {r = r} {rows = rows} p f) h e = apart-head k r rows h (sym e ∙ f)
+apart-first k (later {r = r} {rows = rows} p f) h e = apart-first k f (apart-tail k r rows h) e
+
+-- past the row that gave the number
+past : (before : Type 0) (k n : ℕ) (rows : List Row) → (¬ before) → apart k rows ≡ true → n ≡ k → From before n rows
+past before k n [] f h e = (λ z. absurd (differ k 0 h (sym e ∙ z)), λ b. absurd (f b))
+past before k n (r ∷ rows) f h e = (
+  (λ z. absurd (apart-head k r rows h (sym e ∙ z)), λ b. absurd (f (b .0))),
+  past (before × (¬ (r .1))) k n rows (λ b. f (b .0)) (apart-tail k r rows h) e,
+)
+
+table-from : {n : ℕ} {rows : List Row} (before : Type 0) → before → First n rows → distinct rows ≡ true → From before n rows
+table-from before b (none f) h = (λ _. b, λ _. f)
+table-from {n} before b (here {r = r} {rows = rows} p f) h = (
+  (λ _. (b, p), λ _. f),
+  past (before × (¬ (r .1))) (r .0) n rows (λ y. y .1 p) (distinct-head r rows h) f,
+)
+table-from before b (later {r = r} {rows = rows} p f) h = (
+  (λ e. absurd (apart-first (r .0) f (distinct-head r rows h) e), λ y. absurd (p (y .1))),
+  table-from (before × (¬ (r .1))) (b, p) f (distinct-tail r rows h),
+)
+
+table : {n : ℕ} {rows : List Row} → First n rows → distinct rows ≡ true → Exactly n rows
+table f h = table-from (Unit {0}) tt f h
+
+first-some : (a b : ℕ) → a ≢ 0 → first a b ≡ a
+first-some zero b h = absurd (h refl)
+first-some (suc a) b h = refl
+
+-- the first refusal of two: the rows of the one, and then those of the other
+then : {a b : ℕ} {rows more : List Row} → First a rows → First b more → distinct rows ≡ true → First (first a b) (rows ++ more)
+then (none f) g h = rw f g
+then {a} {b} (here {r = r} {rows = rows} p f) g h =
+    here p (first-some a b (λ z. apart-zero (r .0) rows (distinct-head r rows h) (sym f ∙ z)) ∙ f)
+then (later {r = r} {rows = rows} p f) g h = later p (then f g (distinct-tail r rows h))
+
+settle-number : (n : ℕ) (s : Session) (o : List ℕ) (x : Outcome) → settle n s o x .number ≡ first n (x .number)
+settle-number zero s o x = refl
+settle-number (suc n) s o x = refl
+
+-- ---- each number's condition
+given-row : {n k : ℕ} {P : Type 0} → P → n ≡ k → First n ((k, P) ∷ [])
+given-row p e = here p e
+
+no-row : {n k : ℕ} {P : Type 0} → (¬ P) → n ≡ 0 → First n ((k, P) ∷ [])
+no-row p e = later p (none e)
+
+when-row : (b : Bool) (k : ℕ) (P : Type 0) → (b ≡ true → P) → (b ≡ false → ¬ P) → First (when b k) ((k, P) ∷ [])
+when-row true k P p q = given-row (p refl) refl
+when-row false k P p q = no-row (q refl) refl
+
+less-row : (a b k : ℕ) → First (when (ltb a b) k) ((k, a < b) ∷ [])
+less-row a b k = when-row (ltb a b) k (a < b) (ltb-true a b) (λ e h. omega (arith, ltb-false a b e))
+
+mode-row : (m : Mode) → First (modeNumber m) ((1, m ≡ Hash) ∷ [])
+mode-row Hash = given-row refl refl
+mode-row Keyed = no-row (keyed-iff Keyed .1 refl) refl
+
+key-row : (key id nonce : ℕ) → First (keyNumber key id nonce) ((2, 44 < key + 1 + id + nonce) ∷ [])
+unfolding keyNumber
+key-row key id nonce = less-row 44 (key + 1 + id + nonce) 2
+
+room-row : (room result : ℕ) → First (roomNumber room result) ((3, room < result) ∷ [])
+unfolding roomNumber
+room-row room result = less-row room result 3
+
+tail-row : (size : ℕ) → First (tailNumber size) ((3, size < 16) ∷ [])
+unfolding tailNumber
+tail-row size = less-row size 16 3
+
+rate-row : (m : Mode) (r : ℕ) → First (rateNumber m r) ((5, (r ≡ 0) ⊎ (absorbRate m < r)) ∷ [])
+unfolding rateNumber
+rate-row m zero = given-row (inl refl) refl
+rate-row m (suc r) =
+    when-row (ltb (absorbRate m) (suc r)) 5 _ (λ e. inr (ltb-true (absorbRate m) (suc r) e))
+    (λ e. ⊎-elim (λ z. omega arith) (λ h. omega (arith, ltb-false (absorbRate m) (suc r) e)))
+
+-- refused for either of two reasons with one number
+either : {a b k : ℕ} {P Q : Type 0} → First a ((suc k, P) ∷ []) → First b ((suc k, Q) ∷ []) → First (first a b) ((suc k, P ⊎ Q) ∷ [])
+either {a} {b} (here p f) g = here (inl p) (first-some a b (λ z. omega arith) ∙ f)
+either {b = b} (later p (none f)) (here q g) = here (inr q) (ap (λ n. first n b) f ∙ g)
+either {b = b} (later p (none f)) (later q (none g)) = later (⊎-elim p q) (none (ap (λ n. first n b) f ∙ g))
+
+decides-row : (n : ℕ) (P : Type 0) → Decides n P → First n ((4, ¬ P) ∷ [])
+decides-row n P (inl e, d, f) = no-row (λ g. g (d .0 e)) e
+decides-row n P (inr e, d, f) = given-row (f .0 e) e
+
+settle-refusal :
+    (n : ℕ) (s : Session) (o : List ℕ) (x : Outcome) → (x .number ≡ 0) ⊎ (x .number ≡ 4)
+    → settle n s o x .number ≢ 0 → settle n s o x .number ≢ 4 → settle n s o x ≡ refused s (settle n s o x .number) o
+settle-refusal zero s o x (inl e) p q = absurd (p e)
+settle-refusal zero s o x (inr e) p q = absurd (q e)
+settle-refusal (suc n) s o x e p q = refl
+
+-- a call that is refused by the rows alone
+plain :
+    (n : ℕ) (s : Session) (o : List ℕ) (x : Outcome) {rows : List Row} → First n rows → x .number ≡ 0 → distinct rows ≡ true
+    → Answers (settle n s o x) s o rows
+plain n s o x f e h = record {
+  number = rw (settle-number n s o x, e, first-zero n) (table f h);
+  refusal = settle-refusal n s o x (inl e);
+}
+
+-- an opening call: the tag is looked at last
+opening :
+    (n : ℕ) (s : Session) (o t c good bad : List ℕ) {rows : List Row} → First n rows → distinct rows ≡ true
+    → distinct (rows ++ ((4, tagOut (decryptEnd s c) ≢ t) ∷ [])) ≡ true
+    → Answers (settle n s o (opened s t c good bad)) s o (rows ++ ((4, tagOut (decryptEnd s c) ≢ t) ∷ []))
+opening n s o t c good bad f h k = record {
+  number = rw (settle-number n s o (opened s t c good bad)) (table (then f (decides-row _ _ (opened-decides s t c good bad)) h) k);
+  refusal = settle-refusal n s o (opened s t c good bad) (opened-decides s t c good bad .0);
+}
+
+-- ---- the table of each call
+-- `absorb` is never refused
+pub absorb-taken : (s : Session) (x : List ℕ) → absorbOf s x .number ≡ 0
+unfolding absorbOf
+absorb-taken s x = refl
+
+-- nor are `squeeze` and `squeeze_key`
+pub squeeze-taken : (cu : ℕ) (s : Session) (o : List ℕ) → squeezeOf cu s o .number ≡ 0
+unfolding squeezeOf
+squeeze-taken cu s o = refl
+
+-- nor is `squeeze_more`
+pub squeeze-more-taken : (s : Session) (o : List ℕ) → squeezeMoreOf s o .number ≡ 0
+unfolding squeezeMoreOf
+squeeze-more-taken s o = refl
+
+-- `absorb_more`: 5 where the rate is 0 or above the session's absorb rate, even on empty input
+pub absorb-more-answers : (s : Session) (x : List ℕ) (r : ℕ) → Answers (absorbMoreOf s x r) s [] ((5, (r ≡ 0) ⊎ (absorbRate (mode s) < r)) ∷ [])
+unfolding absorbMoreOf
+absorb-more-answers s x r = plain _ s [] _ (rate-row (mode s) r) refl refl
+
+module _ (key : List ℕ) (hasId : Bool) (id : List ℕ) (hasNonce : Bool) (nonce : List ℕ) (hasCounter : Bool) (counter : List ℕ) where
+  -- `absorb_key_and_nonce`: 1 in Hash; 2 where key + 1 + key id + nonce exceeds 44
+  pub key-answers :
+      (s : Session)
+      → Answers (keyOf s key hasId id hasNonce nonce hasCounter counter) s []
+      ((1, mode s ≡ Hash) ∷ (2, 44 < length key + 1 + length (given hasId id) + length (given hasNonce nonce)) ∷ [])
+  unfolding keyOf
+  key-answers s = plain _ s [] _ (then (mode-row (mode s)) (key-row (length key) _ _) refl) refl refl
+
+  -- `new`: 2 likewise; refused, it hands back a fresh Hash session
+  pub new-answers :
+      Answers (newOf key hasNonce nonce hasId id hasCounter counter) (session Hash) []
+      ((2, 44 < length key + 1 + length (given hasId id) + length (given hasNonce nonce)) ∷ [])
+  unfolding newOf
+  new-answers = plain _ (session Hash) [] _ (key-row (length key) _ _) refl refl
+
+module _ (s : Session) where
+  -- `ratchet`: 1 in Hash
+  pub ratchet-answers : Answers (ratchetOf s) s [] ((1, mode s ≡ Hash) ∷ [])
+  unfolding ratchetOf
+  ratchet-answers = plain _ s [] _ (mode-row (mode s)) refl refl
+
+  -- `encrypt`: 1 in Hash; 3 where the output is shorter than the message
+  pub encrypt-answers : (o m : List ℕ) → Answers (encryptOf s o m) s o ((1, mode s ≡ Hash) ∷ (3, length o < length m) ∷ [])
+  unfolding encryptOf
+  encrypt-answers o m = plain _ s o _ (then (mode-row (mode s)) (room-row (length o) (length m)) refl) refl refl
+
+  -- `decrypt`: the same
+  pub decrypt-answers : (o c : List ℕ) → Answers (decryptOf s o c) s o ((1, mode s ≡ Hash) ∷ (3, length o < length c) ∷ [])
+  unfolding decryptOf
+  decrypt-answers o c = plain _ s o _ (then (mode-row (mode s)) (room-row (length o) (length c)) refl) refl refl
+
+  -- `encrypt_in_place`: 1 in Hash
+  pub encrypt-in-place-answers : (b : List ℕ) → Answers (encryptInPlaceOf s b) s b ((1, mode s ≡ Hash) ∷ [])
+  unfolding encryptInPlaceOf
+  encrypt-in-place-answers b = plain _ s b _ (mode-row (mode s)) refl refl
+
+  -- `decrypt_in_place`: the same
+  pub decrypt-in-place-answers : (b : List ℕ) → Answers (decryptInPlaceOf s b) s b ((1, mode s ≡ Hash) ∷ [])
+  unfolding decryptInPlaceOf
+  decrypt-in-place-answers b = plain _ s b _ (mode-row (mode s)) refl refl
+
+  -- `aead_encrypt_detached`: 1 in Hash; 3 where the output is shorter than the message
+  pub seal-detached-answers : (o m : List ℕ) → Answers (sealDetachedOf s o m) s o ((1, mode s ≡ Hash) ∷ (3, length o < length m) ∷ [])
+  unfolding sealDetachedOf
+  seal-detached-answers o m = plain _ s o _ (then (mode-row (mode s)) (room-row (length o) (length m)) refl) refl refl
+
+  -- `aead_encrypt`: 1 in Hash; 3 where the output is shorter than message and tag
+  pub seal-answers : (o m : List ℕ) → Answers (sealOf s o m) s o ((1, mode s ≡ Hash) ∷ (3, length o < length m + 16) ∷ [])
+  unfolding sealOf
+  seal-answers o m = plain _ s o _ (then (mode-row (mode s)) (room-row (length o) (length m + 16)) refl) refl refl
+
+  -- `aead_encrypt_in_place_detached`: 1 in Hash
+  pub seal-in-place-detached-answers : (b : List ℕ) → Answers (sealInPlaceDetachedOf s b) s b ((1, mode s ≡ Hash) ∷ [])
+  unfolding sealInPlaceDetachedOf
+  seal-in-place-detached-answers b = plain _ s b _ (mode-row (mode s)) refl refl
+
+  -- `aead_encrypt_in_place`: 1 in Hash; 3 where the buffer is under 16
+  pub seal-in-place-answers : (b : List ℕ) → Answers (sealInPlaceOf s b) s b ((1, mode s ≡ Hash) ∷ (3, length b < 16) ∷ [])
+  unfolding sealInPlaceOf
+  seal-in-place-answers b = plain _ s b _ (then (mode-row (mode s)) (tail-row (length b)) refl) refl refl
+
+  -- `aead_decrypt_detached`: 1 in Hash; 3 where the output is shorter than the ciphertext; 4 where the tag differs
+  pub open-detached-answers :
+      (o : List ℕ) (t : Tag) (c : List ℕ)
+      → Answers (openDetachedOf s o t c) s o
+      ((1, mode s ≡ Hash) ∷ (3, length o < length c) ∷ (4, tagOut (decryptEnd s c) ≢ t .bytes) ∷ [])
+  unfolding openDetachedOf
+  open-detached-answers o t c =
+      opening _ s o (t .bytes) c _ _ (then (mode-row (mode s)) (room-row (length o) (length c)) refl) refl refl
+
+  -- `aead_decrypt`: 1 in Hash; 3 where the input is under 16, or the output shorter than its result; 4 where the tag differs
+  pub open-answers :
+      (o b : List ℕ)
+      → Answers (openOf s o b) s o
+      ((1, mode s ≡ Hash)
+      ∷ (3, (length b < 16) ⊎ (length o < length b - 16))
+      ∷ (4, tagOut (decryptEnd s (allBut16 b)) ≢ last16 b)
+      ∷ [])
+  unfolding openOf
+  open-answers o b =
+      opening _ s o _ _ _ _ (then (mode-row (mode s)) (either (tail-row (length b)) (room-row (length o) (length b - 16))) refl) refl refl
+
+  -- `aead_decrypt_in_place_detached`: 1 in Hash; 4 where the tag differs
+  pub open-in-place-detached-answers :
+      (b : List ℕ) (t : Tag)
+      → Answers (openInPlaceDetachedOf s b t) s b ((1, mode s ≡ Hash) ∷ (4, tagOut (decryptEnd s b) ≢ t .bytes) ∷ [])
+  unfolding openInPlaceDetachedOf
+  open-in-place-detached-answers b t = opening _ s b (t .bytes) b _ _ (mode-row (mode s)) refl refl
+
+  -- `aead_decrypt_in_place`: 1 in Hash; 3 where the buffer is under 16; 4 where the tag differs
+  pub open-in-place-answers :
+      (b : List ℕ)
+      → Answers (openInPlaceOf s b) s b
+      ((1, mode s ≡ Hash) ∷ (3, length b < 16) ∷ (4, tagOut (decryptEnd s (allBut16 b)) ≢ last16 b) ∷ [])
+  unfolding openInPlaceOf
+  open-in-place-answers b =
+      opening _ s b _ _ _ _ (then (mode-row (mode s)) (tail-row (length b)) refl) refl refl
+
+-- `Tag::verify` answers 4 where the bytes differ, and has no session
+pub verify-numbers : (t : Tag) (b : List ℕ) → Exactly (verifyOf t b) ((4, t .bytes ≢ b) ∷ [])
+unfolding verifyOf
+verify-numbers t b = table (decides-row _ _ (tag-decides (t .bytes) b)) refl

@@ -1,0 +1,13 @@
+-- The claims: a file for each demand, the marked cases, and that a promise decides its result.
+pub mod Crypt
+pub mod Demand1
+pub mod Demand2
+pub mod Demand3
+pub mod Ratchet
+pub mod WalkSteps
+pub mod WalkCalls
+pub mod WalkBack
+pub mod Marked
+pub mod MarkedSessions
+pub mod Decides
+pub mod Decided

@@ -1,0 +1,1 @@
+// What is claimed of the crates below, proved. No code of its own.
