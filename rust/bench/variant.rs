@@ -1,0 +1,62 @@
+// What is measured of one build of the original crate: names, and functions that do a thing so many times.
+use std::hint::black_box;
+use xoodyak::{Xoodoo, XoodyakCommon, XoodyakHash, XoodyakKeyed};
+
+pub type Thing = (String, Box<dyn FnMut(u64)>);
+
+fn thing(name: String, mut once: impl FnMut() + 'static) -> Thing {
+    (name, Box::new(move |times| (0..times).for_each(|_| once())))
+}
+
+// For the driver to see that all forms do the same.
+pub fn permuted_zeros() -> [u8; 48] {
+    let (mut xoodoo, mut out) = (Xoodoo::default(), [0; 48]);
+    xoodoo.permute();
+    xoodoo.bytes(&mut out);
+    out
+}
+
+pub fn things() -> Vec<Thing> {
+    let mut xoodoo = Xoodoo::default();
+    let mut all = vec![thing("permutation".into(), move || black_box(&mut xoodoo).permute())];
+
+    let (data, mut digest) = (vec![7; 4080], [0; 32]);
+    all.push(thing("hash of 4080".into(), move || {
+        let mut session = XoodyakHash::new();
+        session.absorb(black_box(&data));
+        session.squeeze(&mut digest);
+        black_box(&digest);
+    }));
+
+    let start = XoodyakKeyed::new(&[1; 16], Some(&[2; 16]), None, None).unwrap();
+    for length in [64, 4080] {
+        let (mut session, mut data) = (start.clone(), vec![7; length]);
+        all.push(thing(format!("encrypt in place {length}"), move || session.encrypt_in_place(black_box(&mut data))));
+        let (mut session, mut data) = (start.clone(), vec![7; length]);
+        all.push(thing(format!("decrypt in place {length}"), move || session.decrypt_in_place(black_box(&mut data))));
+    }
+    // Sealing and opening start from a copy of one session; each opening is of a record that is good.
+    for length in [16, 64, 1024, 4080] {
+        let (from, message, mut out) = (start.clone(), vec![7; length], vec![0; length]);
+        all.push(thing(format!("seal by copy {length}"), move || {
+            black_box(from.clone().aead_encrypt_detached(black_box(&mut out), black_box(Some(&message))).unwrap());
+        }));
+        let (from, message, mut buffer) = (start.clone(), vec![7; length], vec![0; length]);
+        all.push(thing(format!("seal in place {length}"), move || {
+            buffer.copy_from_slice(&message);
+            black_box(from.clone().aead_encrypt_in_place_detached(black_box(&mut buffer)));
+        }));
+        let mut sealed = vec![7; length];
+        let tag = start.clone().aead_encrypt_in_place_detached(&mut sealed);
+        let (from, ciphertext, its_tag, mut out) = (start.clone(), sealed.clone(), tag.clone(), vec![0; length]);
+        all.push(thing(format!("open by copy {length}"), move || {
+            from.clone().aead_decrypt_detached(black_box(&mut out), &its_tag, black_box(Some(&ciphertext))).unwrap();
+        }));
+        let (from, ciphertext, its_tag, mut buffer) = (start.clone(), sealed, tag, vec![0; length]);
+        all.push(thing(format!("open in place {length}"), move || {
+            buffer.copy_from_slice(&ciphertext);
+            from.clone().aead_decrypt_in_place_detached(black_box(&mut buffer), &its_tag).unwrap();
+        }));
+    }
+    all
+}

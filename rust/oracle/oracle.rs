@@ -1,0 +1,369 @@
+// Answers transcript lines with the original crate, unchanged: the oracle of the differential tests.
+//
+// Lines that the original has no call for, or where the port differs from it on purpose, are answered `unsupported`
+// and change nothing. With `--outside` the latter are put to the original all the same, to show what it does
+// (`panic` where it panics).
+use std::io::{self, BufRead, Write};
+use std::panic::{catch_unwind, AssertUnwindSafe};
+use xoodyak::{Xoodoo, XoodyakAny, XoodyakCommon, XoodyakError, XoodyakHash, XoodyakKeyed, XoodyakTag};
+
+const LONGEST_LINE: usize = 40_000;
+const LONGEST_BYTES: usize = 16_384;
+const UNSUPPORTED: &str = "unsupported";
+
+// Words of a line. `None` means that the word does not fit its form.
+
+fn digit(c: u8) -> Option<u8> {
+    match c {
+        b'0'..=b'9' => Some(c - b'0'),
+        b'a'..=b'f' => Some(c - b'a' + 10),
+        _ => None,
+    }
+}
+
+fn bytes(word: &str) -> Option<Vec<u8>> {
+    if word == "." {
+        return Some(Vec::new());
+    }
+    if word.is_empty() || word.len() % 2 == 1 || word.len() / 2 > LONGEST_BYTES {
+        return None;
+    }
+    word.as_bytes().chunks(2).map(|pair| Some(digit(pair[0])? * 16 + digit(pair[1])?)).collect()
+}
+
+fn array<const LENGTH: usize>(word: &str) -> Option<[u8; LENGTH]> {
+    bytes(word)?.try_into().ok()
+}
+
+// Outer: does the word fit; inner: is the argument present.
+fn optional(word: &str) -> Option<Option<Vec<u8>>> {
+    match word.strip_prefix('-') {
+        None => Some(Some(bytes(word)?)),
+        Some("") => Some(None),
+        Some(ignored) => bytes(ignored).map(|_| None),
+    }
+}
+
+fn number(word: &str) -> Option<u64> {
+    if word.is_empty() || word.len() > 20 || !word.bytes().all(|c| c.is_ascii_digit()) {
+        return None;
+    }
+    word.parse().ok()
+}
+
+fn length(word: &str) -> Option<usize> {
+    number(word).filter(|&n| n <= LONGEST_BYTES as u64).map(|n| n as usize)
+}
+
+fn mode(word: &str) -> Option<()> {
+    matches!(word, "hash" | "keyed").then_some(())
+}
+
+fn phase(word: &str) -> Option<()> {
+    matches!(word, "up" | "down").then_some(())
+}
+
+// Words of an answer.
+
+fn hex(bytes: &[u8]) -> String {
+    if bytes.is_empty() {
+        return ".".to_string();
+    }
+    let digit = |d: u8| char::from(b"0123456789abcdef"[d as usize]);
+    bytes.iter().flat_map(|b| [digit(b >> 4), digit(b & 15)]).collect()
+}
+
+fn code<T>(result: &Result<T, XoodyakError>) -> u8 {
+    match result {
+        Ok(_) => 0,
+        Err(XoodyakError::KeyRequired) => 1,
+        Err(XoodyakError::InvalidParameterLength) => 2,
+        Err(XoodyakError::InvalidBufferLength) => 3,
+        Err(XoodyakError::TagMismatch) => 4,
+    }
+}
+
+fn with_tag(result: Result<XoodyakTag, XoodyakError>, buffer: &[u8]) -> String {
+    let number = code(&result);
+    format!("{} {} {}", number, hex(buffer), hex(result.unwrap_or_default().as_ref()))
+}
+
+fn fresh_hash() -> XoodyakAny {
+    XoodyakAny::Hash(XoodyakHash::new())
+}
+
+fn unwritten(length: usize) -> Vec<u8> {
+    vec![0xa5; length]
+}
+
+#[derive(Clone)]
+struct Runner {
+    session: XoodyakAny,
+    xoodoo: Xoodoo,
+    outside: bool,
+}
+
+impl Runner {
+    fn absorb_rate(&self) -> u64 {
+        match self.session {
+            XoodyakAny::Hash(_) => 16,
+            XoodyakAny::Keyed(_) => 44,
+        }
+    }
+
+    // The original writes key stream past a message of this length when its output is longer than its result.
+    fn spills(&self, out: usize, result: usize, message: usize) -> bool {
+        matches!(self.session, XoodyakAny::Keyed(_)) && out > result && message % 24 != 0 && !self.outside
+    }
+
+    // The session as the original's Debug text tells it: `Hash(XoodyakHash { state: Xoodoo { st: [..] }, phase: Up })`.
+    fn state(&self) -> String {
+        let text = format!("{:?}", self.session);
+        let mode = if text.starts_with("Hash(") { "hash" } else { "keyed" };
+        let phase = if text.contains("phase: Up") { "up" } else { "down" };
+        let (from, to) = (text.find('[').unwrap() + 1, text.find(']').unwrap());
+        let bytes: Vec<u8> = text[from..to].split(", ").map(|byte| byte.parse().unwrap()).collect();
+        format!("{} {} {}", mode, phase, hex(&bytes))
+    }
+
+    // `None` is a line that fits no form.
+    fn answer(&mut self, line: &str) -> Option<String> {
+        let words: Vec<&str> = line.split(' ').collect();
+        Some(match words[..] {
+            ["hash"] => {
+                self.session = fresh_hash();
+                "0".to_string()
+            }
+            ["new", key, nonce, id, counter] => {
+                let (key, nonce, id, counter) = (bytes(key)?, optional(nonce)?, optional(id)?, optional(counter)?);
+                let made = XoodyakKeyed::new(&key, nonce.as_deref(), id.as_deref(), counter.as_deref());
+                let number = code(&made);
+                self.session = made.map_or_else(|_| fresh_hash(), XoodyakAny::Keyed);
+                number.to_string()
+            }
+            ["key", key, id, nonce, counter] => {
+                let (key, id, nonce, counter) = (bytes(key)?, optional(id)?, optional(nonce)?, optional(counter)?);
+                let done = self.session.absorb_key_and_nonce(&key, id.as_deref(), nonce.as_deref(), counter.as_deref());
+                code(&done).to_string()
+            }
+            ["absorb", data] => {
+                self.session.absorb(&bytes(data)?);
+                "0".to_string()
+            }
+            ["absorb_more", data, rate] => {
+                let (data, rate) = (bytes(data)?, number(rate)?);
+                if (rate == 0 || rate > self.absorb_rate()) && !self.outside {
+                    return Some(UNSUPPORTED.to_string());
+                }
+                self.session.absorb_more(&data, rate as usize);
+                "0".to_string()
+            }
+            ["squeeze", n] => {
+                let mut out = unwritten(length(n)?);
+                self.session.squeeze(&mut out);
+                format!("0 {}", hex(&out))
+            }
+            ["squeeze_key", n] => {
+                let mut out = unwritten(length(n)?);
+                self.session.squeeze_key(&mut out);
+                format!("0 {}", hex(&out))
+            }
+            ["squeeze_more", n] => {
+                let mut out = unwritten(length(n)?);
+                self.session.squeeze_more(&mut out);
+                format!("0 {}", hex(&out))
+            }
+            ["ratchet"] => code(&self.session.ratchet()).to_string(),
+            ["encrypt", n, data] => {
+                let (mut out, data) = (unwritten(length(n)?), bytes(data)?);
+                if self.spills(out.len(), data.len(), data.len()) {
+                    return Some(UNSUPPORTED.to_string());
+                }
+                let done = self.session.encrypt(&mut out, &data);
+                format!("{} {}", code(&done), hex(&out))
+            }
+            ["decrypt", n, data] => {
+                let (mut out, data) = (unwritten(length(n)?), bytes(data)?);
+                if self.spills(out.len(), data.len(), data.len()) {
+                    return Some(UNSUPPORTED.to_string());
+                }
+                let done = self.session.decrypt(&mut out, &data);
+                format!("{} {}", code(&done), hex(&out))
+            }
+            ["encrypt_in_place", data] => {
+                let mut data = bytes(data)?;
+                let done = self.session.encrypt_in_place(&mut data);
+                format!("{} {}", code(&done), hex(&data))
+            }
+            ["decrypt_in_place", data] => {
+                let mut data = bytes(data)?;
+                let done = self.session.decrypt_in_place(&mut data);
+                format!("{} {}", code(&done), hex(&data))
+            }
+            ["aead_encrypt_detached", n, data] => {
+                let (mut out, data) = (unwritten(length(n)?), optional(data)?);
+                let message = data.as_ref().map_or(0, Vec::len);
+                if self.spills(out.len(), message, message) {
+                    return Some(UNSUPPORTED.to_string());
+                }
+                let done = self.session.aead_encrypt_detached(&mut out, data.as_deref());
+                with_tag(done, &out)
+            }
+            ["aead_encrypt", n, data] => {
+                let (mut out, data) = (unwritten(length(n)?), optional(data)?);
+                let message = data.as_ref().map_or(0, Vec::len);
+                if self.spills(out.len(), message + 16, message) {
+                    return Some(UNSUPPORTED.to_string());
+                }
+                let done = self.session.aead_encrypt(&mut out, data.as_deref());
+                format!("{} {}", code(&done), hex(&out))
+            }
+            ["aead_decrypt_detached", n, tag, data] => {
+                let (mut out, tag, data) = (unwritten(length(n)?), XoodyakTag::from(array(tag)?), optional(data)?);
+                let message = data.as_ref().map_or(0, Vec::len);
+                if self.spills(out.len(), message, message) {
+                    return Some(UNSUPPORTED.to_string());
+                }
+                let done = self.session.aead_decrypt_detached(&mut out, &tag, data.as_deref());
+                format!("{} {}", code(&done), hex(&out))
+            }
+            ["aead_decrypt", n, data] => {
+                let (mut out, data) = (unwritten(length(n)?), bytes(data)?);
+                if data.len() >= 16 && self.spills(out.len(), data.len() - 16, data.len() - 16) {
+                    return Some(UNSUPPORTED.to_string());
+                }
+                let done = self.session.aead_decrypt(&mut out, &data);
+                format!("{} {}", code(&done), hex(&out))
+            }
+            ["aead_encrypt_in_place_detached", data] => {
+                let mut data = bytes(data)?;
+                let done = self.session.aead_encrypt_in_place_detached(&mut data);
+                with_tag(done, &data)
+            }
+            ["aead_encrypt_in_place", data] => {
+                let mut data = bytes(data)?;
+                let done = self.session.aead_encrypt_in_place(&mut data);
+                format!("{} {}", code(&done), hex(&data))
+            }
+            ["aead_decrypt_in_place_detached", data, tag] => {
+                let (mut data, tag) = (bytes(data)?, XoodyakTag::from(array(tag)?));
+                let done = self.session.aead_decrypt_in_place_detached(&mut data, &tag);
+                format!("{} {}", code(&done), hex(&data))
+            }
+            ["aead_decrypt_in_place", data] => {
+                let mut data = bytes(data)?;
+                let done = self.session.aead_decrypt_in_place(&mut data).map(|plaintext| plaintext.to_vec());
+                format!("{} {} {}", code(&done), hex(&data), hex(&done.unwrap_or_default()))
+            }
+            ["verify", one, other] => {
+                let (one, other) = (XoodyakTag::from(array(one)?), array(other)?);
+                code(&one.verify(other)).to_string()
+            }
+            ["state"] => self.state(),
+            ["set", of, at, to] => {
+                (mode(of)?, phase(at)?, array::<48>(to)?);
+                UNSUPPORTED.to_string()
+            }
+            ["back", before, ref call @ ..] => {
+                phase(before)?;
+                match *call {
+                    ["absorb" | "encrypt" | "seal", data] => drop(bytes(data)?),
+                    ["absorb_more", data, rate] => drop((bytes(data)?, number(rate)?)),
+                    ["squeeze" | "squeeze_key" | "squeeze_more", n] => drop(length(n)?),
+                    ["key", key, id, nonce, counter] => {
+                        drop((bytes(key)?, optional(id)?, optional(nonce)?, optional(counter)?))
+                    }
+                    _ => return None,
+                }
+                UNSUPPORTED.to_string()
+            }
+            ["x_set", to] => {
+                self.xoodoo = Xoodoo::from_bytes(array(to)?);
+                "0".to_string()
+            }
+            ["x_add_byte", at, byte] => {
+                let (at, [byte]) = (number(at)?, array(byte)?);
+                if at > 47 && !self.outside {
+                    return Some(UNSUPPORTED.to_string());
+                }
+                self.xoodoo.add_byte(byte, at as usize);
+                "0".to_string()
+            }
+            ["x_add_bytes", data] => {
+                let data = bytes(data)?;
+                if data.len() > 48 && !self.outside {
+                    return Some(UNSUPPORTED.to_string());
+                }
+                self.xoodoo.add_bytes(&data);
+                "0".to_string()
+            }
+            ["x_extract", n] => {
+                let mut out = unwritten(length(n)?);
+                if out.len() > 48 && !self.outside {
+                    return Some(UNSUPPORTED.to_string());
+                }
+                self.xoodoo.extract_bytes(&mut out);
+                format!("0 {}", hex(&out))
+            }
+            ["x_permute"] => {
+                self.xoodoo.permute();
+                "0".to_string()
+            }
+            ["x_inverse"] => UNSUPPORTED.to_string(),
+            ["x_state"] => {
+                let mut out = [0; 48];
+                self.xoodoo.bytes(&mut out);
+                hex(&out)
+            }
+            _ => return None,
+        })
+    }
+
+    fn answer_or_panic(&mut self, line: &str) -> Option<String> {
+        if !self.outside {
+            return self.answer(line);
+        }
+        let before = self.clone();
+        catch_unwind(AssertUnwindSafe(|| self.answer(line))).unwrap_or_else(|_| {
+            *self = before;
+            Some("panic".to_string())
+        })
+    }
+}
+
+fn main() -> io::Result<()> {
+    let outside = match std::env::args().skip(1).collect::<Vec<_>>().as_slice() {
+        [] => false,
+        [option] if option == "--outside" => true,
+        _ => {
+            eprintln!("usage: oracle [--outside] < transcript > answers");
+            std::process::exit(2);
+        }
+    };
+    if outside {
+        std::panic::set_hook(Box::new(|_| {}));
+    }
+    let mut runner = Runner { session: fresh_hash(), xoodoo: Xoodoo::default(), outside };
+    let mut input = io::BufReader::with_capacity(1 << 16, io::stdin().lock());
+    let mut output = io::BufWriter::with_capacity(1 << 16, io::stdout().lock());
+    let mut line = Vec::new();
+    loop {
+        // Whoever drives the oracle line by line has each answer before the next read waits.
+        if !input.buffer().contains(&b'\n') {
+            output.flush()?;
+        }
+        line.clear();
+        if input.read_until(b'\n', &mut line)? == 0 {
+            return output.flush();
+        }
+        if line.last() == Some(&b'\n') {
+            line.pop();
+        }
+        if line.is_empty() || line[0] == b'#' {
+            continue;
+        }
+        let text = std::str::from_utf8(&line).ok().filter(|text| text.len() <= LONGEST_LINE);
+        let answer = text.and_then(|text| runner.answer_or_panic(text));
+        writeln!(output, "{}", answer.as_deref().unwrap_or("bad"))?;
+    }
+}

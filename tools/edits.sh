@@ -1,0 +1,13 @@
+#!/bin/sh
+# edits.sh [--quiet]: after `rt ci`, the first error of each must-fail edit. An edit whose first error says
+# "has no `Need-" or names a missing field only made the proof unfit for the code and shows nothing: it is marked EMPTY.
+# Exit 1 where there is one; --quiet prints those alone.
+bad=0
+for log in $(find target/must-fail -name .log | sort); do
+    first=$(grep -m1 -E 'error|has no `Need-|has no field' "$log" | cut -c1-160)
+    case $first in *'has no `Need-'* | *'has no field'*) mark=EMPTY; bad=1 ;; *) mark=ok ;; esac
+    if [ $mark = EMPTY ] || [ "$1" != --quiet ]; then
+        echo "$mark $(dirname "$log" | sed 's,target/must-fail/,,'): $first"
+    fi
+done
+exit $bad
