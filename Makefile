@@ -1,0 +1,48 @@
+# What can be made here; `make help` lists it. `make test` is the gate.
+.PHONY: help demo test checks oracle stored bench lib rust
+SEEDS ?= 1 2 3 4 5
+LINES ?= 70000
+
+help:
+	@echo 'make demo    prove what the demonstration needs, then seal, open and refuse a batch of readings'
+	@echo 'make test    the gate: layout, promises, imports; then everything proved from nothing, every must-fail edit, every program'
+	@echo 'make oracle  compare the proved program with the original Rust crate on random transcripts (SEEDS, LINES)'
+	@echo 'make stored  make the stored transcript and its answers anew'
+	@echo 'make bench   time the library beside the original Rust crate'
+	@echo 'make lib     the archive for C and Rust: target/staticlib/libcapi.a'
+	@echo 'make rust    nothing to do yet: the drop-in crate and the C test are not there'
+
+demo:
+	@rt check demo > target-demo.log 2>&1 || { cat target-demo.log; exit 1; }
+	@rm -f target-demo.log
+	@target/bin/demo
+
+checks:
+	rt fmt --check
+	python3 tools/promises.py
+	python3 tools/imports.py
+	python3 tools/seams.py
+
+# The last line is that of `rt ci`: tools/edits.sh prints only where an edit shows nothing.
+test: checks
+	rt ci
+	@tools/edits.sh --quiet
+
+oracle:
+	rust/oracle/build.sh
+	rt check replay
+	LINES=$(LINES) KINDS=all tools/oracle.sh target/bin/replay $(SEEDS)
+
+stored:
+	rust/oracle/build.sh
+	python3 tools/transcripts.py stored all crates/replay/stdin crates/replay/stdout
+
+lib:
+	rt staticlib capi
+
+bench: lib
+	rust/bench/build.sh
+	target/bench/bench
+
+rust:
+	@echo 'nothing to do yet: the drop-in crate and the C test are not there'
