@@ -10,7 +10,7 @@ import sys
 
 LONGEST_LINE = 40000
 LONGEST_BYTES = 16384
-KEY_REQUIRED, PARAMETER_LENGTH, BUFFER_LENGTH, TAG_MISMATCH, BAD_RATE, BAD_RUN = 1, 2, 3, 4, 5, 6
+KEY_REQUIRED, PARAMETER_LENGTH, BUFFER_LENGTH, TAG_MISMATCH, BAD_RATE, BAD_RUN, BAD_COUNT = 1, 2, 3, 4, 5, 6, 11
 
 # ---- Xoodoo: a plane is a number of 128 bits, column x at bits 32x to 32x+31 ----
 
@@ -64,16 +64,17 @@ def planes(state):
     return state & PLANE, state >> 128 & PLANE, state >> 256
 
 
-def permute(state):
+def permute(state, rounds=12):
+    """With the last so many constants."""
     a0, a1, a2 = planes(state)
-    for constant in ROUND_CONSTANTS:
+    for constant in ROUND_CONSTANTS[12 - rounds:]:
         a0, a1, a2 = round_(a0, a1, a2, constant)
     return a0 | a1 << 128 | a2 << 256
 
 
-def inverse(state):
+def inverse(state, rounds=12):
     a0, a1, a2 = planes(state)
-    for constant in reversed(ROUND_CONSTANTS):
+    for constant in reversed(ROUND_CONSTANTS[12 - rounds:]):
         a0, a1, a2 = unround(a0, a1, a2, constant)
     return a0 | a1 << 128 | a2 << 256
 
@@ -401,6 +402,8 @@ class Runner:
             "x_extract": ([read_length], self.x_extract),
             "x_permute": ([], lambda: self.x_become(permute(self.xoodoo))),
             "x_inverse": ([], lambda: self.x_become(inverse(self.xoodoo))),
+            "x_rounds": ([read_number], lambda n: self.x_count(permute, n)),
+            "x_unrounds": ([read_number], lambda n: self.x_count(inverse, n)),
             "x_state": ([], lambda: first_bytes(self.xoodoo, 48)),
         }
 
@@ -530,6 +533,9 @@ class Runner:
     def x_become(self, state):
         self.xoodoo = state
         return 0
+
+    def x_count(self, way, rounds):
+        return BAD_COUNT if rounds > 12 else self.x_become(way(self.xoodoo, rounds))
 
     def x_set(self, state):
         return self.x_become(at_byte(0, state))

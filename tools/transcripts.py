@@ -452,6 +452,27 @@ class StoredScript(Script):
             self.ask("x_state")
             self.ask("x_permute")
             self.expect(state, "x_state")
+        self.note("rounds by a count, there and back; 11 exactly above 12")
+        states = random.Random("rounds")  # apart, so that the lines after these stay as they were
+        for count in range(13):
+            state = word(states.randbytes(48))
+            self.ask("x_set", state)
+            self.expect("0", "x_rounds", count)
+            self.ask("x_state")
+            self.expect("0", "x_unrounds", count)
+            self.expect(state, "x_state")
+            self.expect("0", "x_unrounds", count)
+            self.ask("x_state")
+            self.expect("0", "x_rounds", count)
+            self.expect(state, "x_state")
+        self.expect("0", "x_rounds", 0)
+        self.expect(state, "x_state")
+        for count in [13, 14, 24, 255, 256, 2**32, 2**32 + 12, 2**64 - 1]:
+            self.expect("11", "x_rounds", count)
+            self.expect("11", "x_unrounds", count)
+            self.expect(state, "x_state")
+        for line in ["x_rounds", "x_rounds .", "x_rounds -1", "x_rounds 18446744073709551616", "x_unrounds 1 2"]:
+            self.expect("bad", line)
         self.note("bytes added and read; number 6 exactly above offset 47 and above 48 bytes")
         self.ask("x_set", self.data(48))
         for at in [0, 1, 3, 4, 15, 16, 31, 32, 46, 47]:

@@ -310,6 +310,18 @@ impl Runner {
                 "0".to_string()
             }
             ["x_inverse"] => UNSUPPORTED.to_string(),
+            // The original has twelve rounds and no other count.
+            ["x_rounds", n] => match number(n)? {
+                12 => {
+                    self.xoodoo.permute();
+                    "0".to_string()
+                }
+                _ => UNSUPPORTED.to_string(),
+            },
+            ["x_unrounds", n] => {
+                number(n)?;
+                UNSUPPORTED.to_string()
+            }
             ["x_state"] => {
                 let mut out = [0; 48];
                 self.xoodoo.bytes(&mut out);

@@ -3,7 +3,7 @@ use mathlib.Core.Path.{_≡_, ap}
 use mathlib.Core.List.{List, [], _∷_, _++_}
 use Prim.Native.Nat.{ℕ, zero, suc, _+_, _^_, _<_}
 use native.Mathlib.Omega.{arith}
-use lib.ListN.{length, getD}
+use lib.ListN.{length, getD, drop}
 use lib.Seq.{sets}
 use mir.Val.{Val, bits}
 use mir.Syntax.{Width}
@@ -24,6 +24,11 @@ all-of n (x ∷ xs) h = (h 0, all-of n xs (λ i. h (suc i)))
 pub all-append : (n : ℕ) (xs ys : List ℕ) → All n xs → All n ys → All n (xs ++ ys)
 all-append n [] ys h k = k
 all-append n (x ∷ xs) ys h k = (h .0, all-append n xs ys (h .1) k)
+
+pub all-drop : (n i : ℕ) (xs : List ℕ) → All n xs → All n (drop i xs)
+all-drop n zero xs h = h
+all-drop n (suc i) [] h = tt
+all-drop n (suc i) (x ∷ xs) h = all-drop n i xs (h .1)
 
 -- what an array or a slice of numbers of width w says of its elements
 pub each-all : (w : Width) (xs : List ℕ) (us : List Val) → shadow (each ℕ (UInt w .own) xs us) → All (2 ^ bits w) xs

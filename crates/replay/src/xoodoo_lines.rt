@@ -58,6 +58,22 @@ fn extract(x: Xoodoo, words: &[u8], out: &mut [u8], at: &mut usize) {
     out::number_buf(out, at, number, part);
 }
 
+// So many rounds, there or back.
+fn rounds(x: Xoodoo, words: &[u8], back: bool, out: &mut [u8], at: &mut usize) -> Xoodoo {
+    let count = decimal(words);
+    if !count.ok {
+        out::bad(out, at);
+        return x;
+    }
+    let r = if back {
+        x.unrounds(count.n)
+    } else {
+        x.rounds(count.n)
+    };
+    out::number(out, at, r.number);
+    r.state
+}
+
 fn state(x: Xoodoo, out: &mut [u8], at: &mut usize) {
     let mut st = [0u8; 48];
     x.bytes(&mut st);
@@ -75,6 +91,12 @@ pub fn answer(x: Xoodoo, line: &[u8], out: &mut [u8], at: &mut usize) -> Xoodoo 
     }
     if same(name, b"x_add_bytes") {
         return add_bytes(x, words, out, at);
+    }
+    if same(name, b"x_rounds") {
+        return rounds(x, words, false, out, at);
+    }
+    if same(name, b"x_unrounds") {
+        return rounds(x, words, true, out, at);
     }
     if same(name, b"x_extract") {
         extract(x, words, out, at);

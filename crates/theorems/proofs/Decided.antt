@@ -17,6 +17,10 @@ use Rattle.xoodoo.proofs.Xoodoo.permute.Reads as xoodoo-permute
 use Rattle.xoodoo.proofs.Xoodoo.permute.Kinds as xoodoo-permute-k
 use Rattle.xoodoo.proofs.Xoodoo.inverse.Reads as xoodoo-inverse
 use Rattle.xoodoo.proofs.Xoodoo.inverse.Kinds as xoodoo-inverse-k
+use Rattle.xoodoo.proofs.Xoodoo.rounds.Reads as xoodoo-rounds
+use Rattle.xoodoo.proofs.Xoodoo.rounds.Kinds as xoodoo-rounds-k
+use Rattle.xoodoo.proofs.Xoodoo.unrounds.Reads as xoodoo-unrounds
+use Rattle.xoodoo.proofs.Xoodoo.unrounds.Kinds as xoodoo-unrounds-k
 use Rattle.xoodyak.proofs.Session.hash.Reads as hash
 use Rattle.xoodyak.proofs.Session.hash.Kinds as hash-k
 use Rattle.xoodyak.proofs.Session.new.Reads as new
@@ -112,6 +116,12 @@ xoodoo-permute-decided κs a x x′ e e′ = once
 
 pub xoodoo-inverse-decided : Decides 0 xoodoo-inverse-k.ps xoodoo-inverse-k.r xoodoo-inverse.Post (λ κs x x′ e e′. x ≡ x′)
 xoodoo-inverse-decided κs a x x′ e e′ = once
+
+pub xoodoo-rounds-decided : Decides 0 xoodoo-rounds-k.ps xoodoo-rounds-k.r xoodoo-rounds.Post (λ κs x x′ e e′. x ≡ x′)
+xoodoo-rounds-decided κs a x x′ e e′ = once
+
+pub xoodoo-unrounds-decided : Decides 0 xoodoo-unrounds-k.ps xoodoo-unrounds-k.r xoodoo-unrounds.Post (λ κs x x′ e e′. x ≡ x′)
+xoodoo-unrounds-decided κs a x x′ e e′ = once
 
 -- ---- sessions
 pub hash-decided : Decides 0 hash-k.ps hash-k.r hash.Post (λ κs x x′ e e′. x ≡ x′)

@@ -2,10 +2,10 @@
 use mathlib.Core.Path.{_≡_, refl}
 use mathlib.Core.List.{List, [], _∷_}
 use Prim.Native.Nat.{ℕ}
-use lib.ListN.{replicate}
+use lib.ListN.{replicate, set}
 use Rattle.laws.specs.Words.{_⊕_, _⊙_, not32, rotl}
 use Rattle.xoodoo.specs.declared.round.State.{State}
-use Rattle.xoodoo.specs.Xoodoo.{wordOf, wordAt, planeAt, fromBytes, byteOf, wordBytes, planeBytes, toBytes, _⊞_, up, parity, effect, addPlanes, theta, rhoWest, iota, gain, gains, chi, rhoEast, round, constants, rounds, xoodoo}
+use Rattle.xoodoo.specs.Xoodoo.{wordOf, wordAt, planeAt, fromBytes, byteOf, wordBytes, planeBytes, toBytes, _⊞_, up, parity, effect, addPlanes, theta, rhoWest, iota, gain, gains, chi, rhoEast, round, constants, lastOf, rounds, xoodooRounds, xoodoo}
 
 -- the twelve words, in order
 abbrev words : State → List ℕ
@@ -43,5 +43,10 @@ pub zeros : xoodoo (replicate 48 0) ≡
     0x8d ∷ 0xd8 ∷ 0xd5 ∷ 0x89 ∷ 0xbf ∷ 0xfc ∷ 0x63 ∷ 0xa9 ∷ 0x19 ∷ 0x2d ∷ 0x23 ∷ 0x1b ∷ 0x14 ∷ 0xa0 ∷ 0xa5 ∷ 0xff
     ∷ 0x06 ∷ 0x81 ∷ 0xb1 ∷ 0x36 ∷ 0xfe ∷ 0xc1 ∷ 0xc7 ∷ 0xaf ∷ 0xbe ∷ 0x7c ∷ 0xe5 ∷ 0xae ∷ 0xbd ∷ 0x40 ∷ 0x75 ∷ 0xa7
     ∷ 0x70 ∷ 0xe8 ∷ 0x86 ∷ 0x2e ∷ 0xc9 ∷ 0xb7 ∷ 0xf5 ∷ 0xfe ∷ 0xf2 ∷ 0xad ∷ 0x4f ∷ 0x8b ∷ 0x62 ∷ 0x40 ∷ 0x4f ∷ 0x5e ∷ []
-unfolding _⊕_ _⊙_ not32 rotl wordOf wordAt planeAt fromBytes byteOf wordBytes planeBytes toBytes _⊞_ up parity effect addPlanes theta rhoWest iota gain gains chi rhoEast round constants rounds xoodoo
+unfolding _⊕_ _⊙_ not32 rotl wordOf wordAt planeAt fromBytes byteOf wordBytes planeBytes toBytes _⊞_ up parity effect addPlanes theta rhoWest iota gain gains chi rhoEast round constants lastOf rounds xoodooRounds xoodoo
 zeros = refl
+
+-- one round of zeros is with the last constant, 0x012
+pub one-round : xoodooRounds 1 (replicate 48 0) ≡ set (set (replicate 48 0) 0 0x12) 16 0x24
+unfolding _⊕_ _⊙_ not32 rotl wordOf wordAt planeAt fromBytes byteOf wordBytes planeBytes toBytes _⊞_ up parity effect addPlanes theta rhoWest iota gain gains chi rhoEast round constants lastOf rounds xoodooRounds
+one-round = refl

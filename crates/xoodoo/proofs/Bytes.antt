@@ -62,7 +62,7 @@ plane-bytes p =
     (all-append 256 (w0 ++ w1) w2 (all-append 256 w0 w1 (word-bytes (p .x0)) (word-bytes (p .x1))) (word-bytes (p .x2)))
     (word-bytes (p .x3))
 
-pub to-size : (s : State) → length (toBytes s) ≡ 48
+to-size : (s : State) → length (toBytes s) ≡ 48
 unfolding toBytes planeBytes wordBytes
 to-size s = refl
 

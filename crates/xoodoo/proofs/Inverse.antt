@@ -1,18 +1,19 @@
 -- Each step, each round and the permutation has a two-sided inverse.
 use mathlib.Core.Path.{_≡_, refl, ap, _∙_}
 use mathlib.Core.List.{List, [], _∷_}
-use Prim.Native.Nat.{ℕ, _^_, _<_}
+use Prim.Native.Nat.{ℕ, _-_, _^_, _<_}
 use native.Mathlib.Omega.{arith}
 use lib.ListN.{length}
 use Rattle.laws.specs.Lists.{All, Bytes48}
 use Rattle.laws.proofs.Words.{⊕-lt, ⊕-back}
-use Rattle.xoodoo.specs.Xoodoo.{up, theta, untheta, rhoWest, unrhoWest, iota, gains, chi, rhoEast, unrhoEast, round, unround, rounds, unrounds, constants, fromBytes, toBytes, xoodoo, inverse}
+use Rattle.laws.proofs.Bytes.{all-drop}
+use Rattle.xoodoo.specs.Xoodoo.{up, theta, untheta, rhoWest, unrhoWest, iota, gains, chi, rhoEast, unrhoEast, round, unround, rounds, unrounds, constants, lastOf, fromBytes, toBytes, xoodooRounds, inverseRounds, xoodoo, inverse}
 use Rattle.xoodoo.specs.declared.round.Plane.{Plane}
 use Rattle.xoodoo.specs.declared.round.State.{State}
 use Rattle.xoodoo.proofs.Planes.{plane≡, state≡, Words, Good, up-words, rotls-words, rotls-back}
 use Rattle.xoodoo.proofs.Chi.{gain-lt, gain-back}
 use Rattle.xoodoo.proofs.Theta.{theta-good, untheta-good, untheta-theta, theta-untheta}
-use Rattle.xoodoo.proofs.Bytes.{to-size, to-bytes, from-good, from-to, to-from}
+use Rattle.xoodoo.proofs.Bytes.{to-bytes, from-good, from-to, to-from}
 
 -- b undoes f and f undoes b on states of 32-bit words, and both keep them such
 pub record Inverse (f b : State → State) : Type 0 where
@@ -121,8 +122,9 @@ constants-all : All (2 ^ 32) constants
 unfolding constants
 constants-all = omega arith
 
-twelve-inverse : Inverse (rounds constants) (unrounds constants)
-twelve-inverse = rounds-inverse constants constants-all
+last-inverse : (n : ℕ) → Inverse (rounds (lastOf n)) (unrounds (lastOf n))
+unfolding lastOf
+last-inverse n = rounds-inverse (lastOf n) (all-drop (2 ^ 32) (12 - n) constants constants-all)
 
 -- ---- on bytes
 -- what is inverse on states is so on 48 bytes
@@ -133,26 +135,53 @@ on-bytes {f} {b} I {l} h =
 pub swap : {f b : State → State} → Inverse f b → Inverse b f
 swap I = record { back = I .forth; forth = I .back; keeps = I .keeps-back; keeps-back = I .keeps }
 
+-- for every count
+pub inverseRounds-xoodooRounds : (n : ℕ) {b : List ℕ} → Bytes48 b → inverseRounds n (xoodooRounds n b) ≡ b
+unfolding xoodooRounds inverseRounds
+inverseRounds-xoodooRounds n h = on-bytes (last-inverse n) h
+
+pub xoodooRounds-inverseRounds : (n : ℕ) {b : List ℕ} → Bytes48 b → xoodooRounds n (inverseRounds n b) ≡ b
+unfolding xoodooRounds inverseRounds
+xoodooRounds-inverseRounds n h = on-bytes (swap (last-inverse n)) h
+
+pub xoodooRounds-keeps : (n : ℕ) (b : List ℕ) → Bytes48 (xoodooRounds n b)
+unfolding xoodooRounds
+xoodooRounds-keeps n b = to-bytes (rounds (lastOf n) (fromBytes b))
+
+pub inverseRounds-keeps : (n : ℕ) (b : List ℕ) → Bytes48 (inverseRounds n b)
+unfolding inverseRounds
+inverseRounds-keeps n b = to-bytes (unrounds (lastOf n) (fromBytes b))
+
+-- no rounds change nothing
+pub xoodooRounds-none : {b : List ℕ} → Bytes48 b → xoodooRounds 0 b ≡ b
+unfolding xoodooRounds lastOf constants rounds
+xoodooRounds-none h = to-from h
+
+pub inverseRounds-none : {b : List ℕ} → Bytes48 b → inverseRounds 0 b ≡ b
+unfolding inverseRounds lastOf constants unrounds
+inverseRounds-none h = to-from h
+
+-- and so for twelve
 pub inverse-xoodoo : {b : List ℕ} → Bytes48 b → inverse (xoodoo b) ≡ b
 unfolding xoodoo inverse
-inverse-xoodoo h = on-bytes twelve-inverse h
+inverse-xoodoo h = inverseRounds-xoodooRounds 12 h
 
 pub xoodoo-inverse : {b : List ℕ} → Bytes48 b → xoodoo (inverse b) ≡ b
 unfolding xoodoo inverse
-xoodoo-inverse h = on-bytes (swap twelve-inverse) h
+xoodoo-inverse h = xoodooRounds-inverseRounds 12 h
 
 pub xoodoo-keeps : {b : List ℕ} → Bytes48 b → Bytes48 (xoodoo b)
 unfolding xoodoo
-xoodoo-keeps {b} h = to-bytes (rounds constants (fromBytes b))
+xoodoo-keeps {b} h = xoodooRounds-keeps 12 b
 
 pub inverse-keeps : {b : List ℕ} → Bytes48 b → Bytes48 (inverse b)
 unfolding inverse
-inverse-keeps {b} h = to-bytes (unrounds constants (fromBytes b))
+inverse-keeps {b} h = inverseRounds-keeps 12 b
 
 pub xoodoo-length : (b : List ℕ) → length (xoodoo b) ≡ 48
 unfolding xoodoo
-xoodoo-length b = to-size (rounds constants (fromBytes b))
+xoodoo-length b = xoodooRounds-keeps 12 b .size
 
 pub inverse-length : (b : List ℕ) → length (inverse b) ≡ 48
 unfolding inverse
-inverse-length b = to-size (unrounds constants (fromBytes b))
+inverse-length b = inverseRounds-keeps 12 b .size

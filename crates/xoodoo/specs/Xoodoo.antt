@@ -1,7 +1,7 @@
 -- Xoodoo on 48 bytes, in the words and the order of its specification, and then its inverse. To add is to xor; every rotation is to the left.
 use mathlib.Core.List.{List, [], _∷_, _++_}
-use Prim.Native.Nat.{ℕ, zero, suc, _+_, _*_, _/_, _%_, _^_}
-use lib.ListN.{getD}
+use Prim.Native.Nat.{ℕ, zero, suc, _+_, _-_, _*_, _/_, _%_, _^_}
+use lib.ListN.{getD, drop}
 use Rattle.laws.specs.Words.{_⊕_, _⊙_, not32, rotl}
 use Rattle.xoodoo.specs.declared.round.Plane.{Plane}
 use Rattle.xoodoo.specs.declared.round.State.{State}
@@ -108,13 +108,21 @@ unfoldable pub constants : List ℕ
 constants =
     0x058 ∷ 0x038 ∷ 0x3c0 ∷ 0x0d0 ∷ 0x120 ∷ 0x014 ∷ 0x060 ∷ 0x02c ∷ 0x380 ∷ 0x0f0 ∷ 0x1a0 ∷ 0x012 ∷ []
 
+-- the last n of them
+unfoldable pub lastOf : ℕ → List ℕ
+lastOf n = drop (12 - n) constants
+
 -- a round for each constant, the first of the list first
 unfoldable pub rounds : List ℕ → State → State
 rounds [] s = s
 rounds (c ∷ cs) s = rounds cs (round c s)
 
+-- a round for each of the last n constants
+unfoldable pub xoodooRounds : ℕ → List ℕ → List ℕ
+xoodooRounds n b = toBytes (rounds (lastOf n) (fromBytes b))
+
 unfoldable pub xoodoo : List ℕ → List ℕ
-xoodoo b = toBytes (rounds constants (fromBytes b))
+xoodoo b = xoodooRounds 12 b
 
 -- ---- the inverse of each step; iota and chi are their own
 unfoldable pub times : ℕ → (State → State) → State → State
@@ -138,5 +146,9 @@ unfoldable pub unrounds : List ℕ → State → State
 unrounds [] s = s
 unrounds (c ∷ cs) s = unround c (unrounds cs s)
 
+-- the rounds of the last n constants, taken back
+unfoldable pub inverseRounds : ℕ → List ℕ → List ℕ
+inverseRounds n b = toBytes (unrounds (lastOf n) (fromBytes b))
+
 unfoldable pub inverse : List ℕ → List ℕ
-inverse b = toBytes (unrounds constants (fromBytes b))
+inverse b = inverseRounds 12 b

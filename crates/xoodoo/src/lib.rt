@@ -1,8 +1,8 @@
-// Xoodoo: the permutation of 48 bytes, its inverse, and the calls on its bytes.
+// Xoodoo: the permutation of 48 bytes with a count of rounds, its inverse, and the calls on its bytes.
 ghost use mathlib.Core.Path.{_≡_};
 ghost use lib.ListN.{replicate};
 ghost use Rattle.xoodoo.specs.Xoodoo as xoodoo;
-ghost use Rattle.xoodoo.specs.Calls.{addByteOf, addBytesOf, extractBytesOf};
+ghost use Rattle.xoodoo.specs.Calls.{addByteOf, addBytesOf, extractBytesOf, roundsOf, unroundsOf};
 
 mod round;
 mod unround;
@@ -18,7 +18,7 @@ pub struct Xoodoo {
     pub st: [u8; 48],
 }
 
-// A state, and 0, or 6 where the call was refused and the state is the one that was given.
+// A state, and 0, or 6 or 11 where the call was refused and the state is the one that was given.
 pub struct Answer {
     pub state: Xoodoo,
     pub number: u8,
@@ -98,19 +98,51 @@ impl Xoodoo {
         6
     }
 
+    // The last n of the twelve rounds; 11 where n is above 12.
+    pub fn rounds(self, n: usize) -> Answer
+        ensures { λ r. ⌜ r ≡ roundsOf self n ⌝ }
+    {
+        if n <= 12 {
+            let st = self.st;
+            let after = store(rounds(n, load(&st)));
+            return Answer {
+                state: Xoodoo { st: after },
+                number: 0,
+            };
+        }
+        Answer {
+            state: self,
+            number: 11,
+        }
+    }
+
+    // The last n of the twelve rounds taken back; 11 where n is above 12.
+    pub fn unrounds(self, n: usize) -> Answer
+        ensures { λ r. ⌜ r ≡ unroundsOf self n ⌝ }
+    {
+        if n <= 12 {
+            let st = self.st;
+            let before = store(unrounds(n, load(&st)));
+            return Answer {
+                state: Xoodoo { st: before },
+                number: 0,
+            };
+        }
+        Answer {
+            state: self,
+            number: 11,
+        }
+    }
+
     pub fn permute(self) -> Xoodoo
         ensures { λ r. ⌜ r ≡ record { st = xoodoo.xoodoo (self .st) } ⌝ }
     {
-        let st = self.st;
-        let after = store(rounds(load(&st)));
-        Xoodoo { st: after }
+        self.rounds(12).state
     }
 
     pub fn inverse(self) -> Xoodoo
         ensures { λ r. ⌜ r ≡ record { st = xoodoo.inverse (self .st) } ⌝ }
     {
-        let st = self.st;
-        let before = store(unrounds(load(&st)));
-        Xoodoo { st: before }
+        self.unrounds(12).state
     }
 }

@@ -1,9 +1,9 @@
-// Xoodoo's state in planes, the five steps of its round, and the twelve rounds.
+// Xoodoo's state in planes, the five steps of its round, and the rounds.
 ghost use mathlib.Core.Path.{_≡_};
-ghost use Prim.Native.Nat.{_<_};
+ghost use Prim.Native.Nat.{_<_, _≤_};
 ghost use Rattle.laws.specs.Words.{rotl};
 ghost use Rattle.xoodoo.specs.Xoodoo as xoodoo;
-ghost use Rattle.xoodoo.specs.Xoodoo.{each, _⊞_, gains, addPlanes, constants};
+ghost use Rattle.xoodoo.specs.Xoodoo.{each, _⊞_, gains, addPlanes, lastOf};
 
 // A word for each column.
 pub struct Plane {
@@ -172,13 +172,15 @@ fn round(c: u32, s: State) -> State
     rho_east(chi(iota(c, rho_west(theta(s)))))
 }
 
-pub(crate) fn rounds(s: State) -> State
-    ensures { λ r. ⌜ r ≡ xoodoo.rounds constants s ⌝ }
+// The rounds of the last n constants.
+pub(crate) fn rounds(n: usize, s: State) -> State
+    requires { ⌜ n ≤ 12 ⌝ }
+    ensures { λ r. ⌜ r ≡ xoodoo.rounds (lastOf n) s ⌝ }
 {
     // copied once: an index into the constant itself would build the table at each read
     let keys = ROUND_KEYS;
     let mut t = s;
-    let mut i: usize = 0;
+    let mut i: usize = 12 - n;
     while i < 12 {
         t = round(keys[i], t);
         i += 1;

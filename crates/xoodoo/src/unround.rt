@@ -1,7 +1,8 @@
-// The inverse of each step of the round, and the twelve rounds taken back.
+// The inverse of each step of the round, and the rounds taken back.
 ghost use mathlib.Core.Path.{_≡_};
+ghost use Prim.Native.Nat.{_≤_};
 ghost use Rattle.xoodoo.specs.Xoodoo as xoodoo;
-ghost use Rattle.xoodoo.specs.Xoodoo.{unrhoWest, unrhoEast, constants};
+ghost use Rattle.xoodoo.specs.Xoodoo.{unrhoWest, unrhoEast, lastOf};
 use crate::round::ROUND_KEYS;
 use crate::round::State;
 use crate::round::chi;
@@ -51,14 +52,17 @@ fn unround(c: u32, s: State) -> State
     untheta(unrho_west(iota(c, chi(unrho_east(s)))))
 }
 
-pub(crate) fn unrounds(s: State) -> State
-    ensures { λ r. ⌜ r ≡ xoodoo.unrounds constants s ⌝ }
+// The rounds of the last n constants taken back.
+pub(crate) fn unrounds(n: usize, s: State) -> State
+    requires { ⌜ n ≤ 12 ⌝ }
+    ensures { λ r. ⌜ r ≡ xoodoo.unrounds (lastOf n) s ⌝ }
 {
     // copied once: an index into the constant itself would build the table at each read
     let keys = ROUND_KEYS;
+    let first = 12 - n;
     let mut t = s;
     let mut i: usize = 12;
-    while 0 < i {
+    while first < i {
         i -= 1;
         t = unround(keys[i], t);
     }

@@ -36,7 +36,7 @@ returns c =
     let s = c .before .before .before .args .self in
     let h : length (c .before .before .before .args .bytes .now) ≤ 48 = omega arith in
     rw (le-leb _ _ h)
-    (ap (answer true s) (c .before .loop .inv .1 ∙ ap (addFront (s .st)) (take-all (c .before .loop .i) _ (omega arith))))
+    (ap (answer true 6 s) (c .before .loop .inv .1 ∙ ap (addFront (s .st)) (take-all (c .before .loop .i) _ (omega arith))))
 
 returns-2 : tie.Need-returns-2 Inv-loop μ-loop
 unfolding addBytesOf

@@ -1,21 +1,22 @@
--- The rounds that are left, of the state now, are all the rounds of the first state.
+-- The rounds that are left, of the state now, are all n of the first state.
 use mathlib.Core.Path.{_≡_, refl, sym, ap, _∙_}
 use Prim.Native.Nat.{_≤_, _-_, _+_}
 use native.Mathlib.Omega.{arith}
 use lib.ListN.{drop}
 use borrow.Author.Needs.{needs}
-use Rattle.xoodoo.specs.Xoodoo.{rounds, constants}
+use Rattle.xoodoo.specs.Xoodoo.{rounds, constants, lastOf}
 use Rattle.xoodoo.proofs.Walk.{rounds-next, rounds-end}
 use Rattle.xoodoo.proofs.round.rounds.Statement.{statement}
 use Rattle.xoodoo.proofs.round.rounds.Tie as tie
 
 abbrev Inv-loop : tie.InvT-loop
-Inv-loop keys t₀ i₀ t i = (i ≤ 12) × (rounds (drop i constants) t ≡ rounds constants t₀)
+Inv-loop n keys t₀ i₀ t i = (i ≤ 12) × (rounds (drop i constants) t ≡ rounds (lastOf n) t₀)
 
 abbrev μ-loop : tie.MeasureT-loop
-μ-loop keys t₀ i₀ t i = 12 - i
+μ-loop n keys t₀ i₀ t i = 12 - i
 
 loop-holds : tie.Need-loop-holds Inv-loop μ-loop
+unfolding lastOf
 loop-holds c = (omega arith, refl)
 
 loop-again : tie.Need-loop-again Inv-loop μ-loop
@@ -38,5 +39,5 @@ returns c =
 pub rounds-spec : {M : Type 1} → statement M
 rounds-spec =
     tie.close
-    (tie.spec Inv-loop μ-loop loop-holds (λ c. search needs) (λ c. search needs) (λ c κs. search needs)
+    (tie.spec Inv-loop μ-loop (λ c. search needs) loop-holds (λ c. search needs) (λ c. search needs) (λ c κs. search needs)
     (λ c. search needs) (λ c. search needs) loop-again returns)
