@@ -5,10 +5,9 @@ use Prim.Native.Nat.{ℕ, _^_, _<_}
 use Rattle.laws.specs.Lists.{All, Bytes48}
 use Rattle.xoodoo.specs.declared.round.Plane.{Plane}
 use Rattle.xoodoo.specs.declared.round.State.{State}
-use Rattle.xoodoo.specs.Xoodoo.{fromBytes, toBytes, theta, untheta, rhoWest, unrhoWest, iota, gains, chi, rhoEast, unrhoEast, round, unround, rounds, unrounds, times, xoodoo, inverse}
+use Rattle.xoodoo.specs.Xoodoo.{fromBytes, toBytes, theta, untheta, rhoWest, unrhoWest, iota, gains, chi, rhoEast, unrhoEast, round, unround, rounds, unrounds, xoodoo, inverse}
 use Rattle.xoodoo.proofs.Planes.{plane≡, Words, Good}
 use Rattle.xoodoo.proofs.Chi.{gain-second, gain-third}
-use Rattle.xoodoo.proofs.Theta.{theta-32}
 use Rattle.xoodoo.proofs.Bytes.{from-good, to-bytes, from-to, to-from}
 use Rattle.xoodoo.proofs.Inverse as laws
 use Rattle.xoodoo.proofs.Inverse.{Inverse}
@@ -42,10 +41,6 @@ unfolding gains
 chi-third h k l =
     plane≡ (gain-third _ _ _ (h .w0) (k .w0) (l .w0)) (gain-third _ _ _ (h .w1) (k .w1) (l .w1))
     (gain-third _ _ _ (h .w2) (k .w2) (l .w2)) (gain-third _ _ _ (h .w3) (k .w3) (l .w3))
-
--- theta applied 32 times changes nothing
-pub theta-32-times : (s : State) → Good s → times 32 theta s ≡ s
-theta-32-times = theta-32
 
 -- each step has a two-sided inverse
 pub steps-inverse :

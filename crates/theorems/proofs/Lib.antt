@@ -3,6 +3,7 @@ pub mod Crypt
 pub mod Demand1
 pub mod Demand2
 pub mod Demand3
+pub mod Theta
 pub mod Rounds
 pub mod Ratchet
 pub mod WalkSteps

@@ -5,8 +5,8 @@ use native.Mathlib.Nat.{add-zero, add-suc}
 use native.Mathlib.Omega.{arith}
 use Rattle.laws.specs.Words.{rotl}
 use Rattle.laws.proofs.Words.{⊕-assoc, ⊕-comm, ⊕-self, ⊕-zero, zero-⊕, ⊕-left-comm, ⊕-cancel, ⊕-lt}
-use Rattle.laws.proofs.Rotation.{rot, rot-⊕, rot-rot, rot-lt, rot-mod, rotl-is, rotl-lt, rotl-back}
-use Rattle.xoodoo.specs.Xoodoo.{each, _⊞_, up}
+use Rattle.laws.proofs.Rotation.{rot, rot-⊕, rot-rot, rot-zero, rot-lt, rot-mod, rotl-is, rotl-lt, rotl-back}
+use Rattle.xoodoo.specs.Xoodoo.{each, _⊞_, up, ups}
 use Rattle.xoodoo.specs.declared.round.Plane.{Plane}
 use Rattle.xoodoo.specs.declared.round.State.{State}
 
@@ -76,10 +76,6 @@ unfolding _⊞_
     }
 
 -- ---- shifts by columns
-pub ups : ℕ → Plane → Plane
-ups zero p = p
-ups (suc m) p = up (ups m p)
-
 pub up-words : {p : Plane} → Words p → Words (up p)
 unfolding up
 up-words h = record { w0 = h .w3; w1 = h .w0; w2 = h .w1; w3 = h .w2 }
@@ -125,6 +121,10 @@ pub rots-mod : (k : ℕ) {p : Plane} → Words p → rots k p ≡ rots (k % 32) 
 unfolding rots
 rots-mod k h = plane≡ (rot-mod k _ (h .w0)) (rot-mod k _ (h .w1)) (rot-mod k _ (h .w2)) (rot-mod k _ (h .w3))
 
+rots-zero : (p : Plane) → rots 0 p ≡ p
+unfolding rots
+rots-zero p = plane≡ (rot-zero _) (rot-zero _) (rot-zero _) (rot-zero _)
+
 -- the definition's rotations
 pub rotls-is : (k : ℕ) {p : Plane} → k ≤ 32 → Words p → each (rotl k) p ≡ rots k p
 unfolding rots
@@ -157,12 +157,32 @@ mix-mix m i j p =
     go : (i j : ℕ) → i + j ≡ j + i
     go i j = omega arith
 
--- what theta adds
-pub mix-5-14 : {p : Plane} → Words p → up (each (rotl 5) p ⊞ each (rotl 14) p) ≡ mix 1 5 14 p
-unfolding mix ups
-mix-5-14 h = rw (rotls-is 5 (omega arith) h, rotls-is 14 (omega arith) h)
+pub mix-swap : (m i j n k l : ℕ) (p : Plane) → mix m i j (mix n k l p) ≡ mix n k l (mix m i j p)
+unfolding mix
+mix-swap m i j n k l p =
+    simp (rots-⊞, ups-⊞, rots-ups, rots-rots, ups-ups) (rw (go m n, go i k, go i l, go j k, go j l) (simp plane-sum))
+  where
+    go : (a b : ℕ) → a + b ≡ b + a
+    go a b = omega arith
 
--- its five doublings are nothing: 32 columns up, and rotations by 5 and 14 times 32
-pub mix-none : {p : Plane} → Words p → mix 32 160 448 p ≡ none
+-- the rotations as the definition has them
+pub mix-is : (m i j : ℕ) {p : Plane} → i ≤ 32 → j ≤ 32 → Words p → ups m (each (rotl i) p ⊞ each (rotl j) p) ≡ mix m i j p
+unfolding mix
+mix-is m i j hi hj h = rw (rotls-is i hi h, rotls-is j hj h)
+
+-- 1, 5 and 14 times 4, 8, 16 and 32: columns are counted modulo 4, and rotations modulo 32
+pub mix-4 : {p : Plane} → Words p → mix 4 20 56 p ≡ mix 0 20 24 p
 unfolding mix ups up
-mix-none {p} h = rw (rots-mod 160 h, rots-mod 448 h) (⊞-self (rots 0 p))
+mix-4 h = rw (rots-mod 56 h)
+
+pub mix-8 : {p : Plane} → Words p → mix 8 40 112 p ≡ mix 0 8 16 p
+unfolding mix ups up
+mix-8 h = rw (rots-mod 40 h, rots-mod 112 h)
+
+pub mix-16 : {p : Plane} → Words p → mix 16 80 224 p ≡ rots 16 p ⊞ p
+unfolding mix ups up
+mix-16 {p} h = rw (rots-mod 80 h, rots-mod 224 h, rots-zero p)
+
+pub mix-32 : {p : Plane} → Words p → mix 32 160 448 p ≡ none
+unfolding mix ups up
+mix-32 {p} h = rw (rots-mod 160 h, rots-mod 448 h) (⊞-self (rots 0 p))

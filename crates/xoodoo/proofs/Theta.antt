@@ -1,33 +1,27 @@
--- Theta done 32 times changes nothing, so theta done 31 times undoes it.
-use mathlib.Core.Path.{_≡_, refl, sym, ap, _∙_}
-use Prim.Native.Nat.{ℕ, zero, suc, _+_}
-use native.Mathlib.Nat.{add-zero, add-suc}
-use Rattle.xoodoo.specs.Xoodoo.{_⊞_, parity, effect, addPlanes, theta, untheta, times}
+-- Theta acts on the parity, which it takes from P to P ⊞ E; five steps take the parity back, so they undo theta.
+use mathlib.Core.Path.{_≡_, sym, ap, _∙_}
+use Prim.Native.Nat.{ℕ, _+_, _≤_}
+use native.Mathlib.Omega.{arith}
+use Rattle.laws.specs.Words.{rotl}
+use Rattle.xoodoo.specs.Xoodoo.{each, _⊞_, ups, parity, effect, addPlanes, theta, spread, step, unparity, untheta}
 use Rattle.xoodoo.specs.declared.round.Plane.{Plane}
 use Rattle.xoodoo.specs.declared.round.State.{State}
-use Rattle.xoodoo.proofs.Planes.{state≡, Words, Good, none, plane-sum, ⊞-assoc, ⊞-none, ⊞-cancel, ⊞-words, mix, mix-words, mix-⊞, mix-mix, mix-5-14, mix-none}
+use Rattle.xoodoo.proofs.Planes.{state≡, Words, Good, plane-sum, ⊞-assoc, ⊞-self, ⊞-none, ⊞-cancel, ⊞-words, rotls-is, mix, mix-words, mix-⊞, mix-mix, mix-swap, mix-is, mix-4, mix-8, mix-16, mix-32}
 
--- theta by any function of the parity
-by : (Plane → Plane) → State → State
-by f s = addPlanes (f (parity s)) s
+-- ---- a state whose parity becomes f of what it was
+pub by : (Plane → Plane) → State → State
+by f s = addPlanes (parity s ⊞ f (parity s)) s
 
-parity-words : {s : State} → Good s → Words (parity s)
+pub parity-words : {s : State} → Good s → Words (parity s)
 unfolding parity
 parity-words g = ⊞-words (⊞-words (g .g0) (g .g1)) (g .g2)
 
-add-good : {e : Plane} {s : State} → Words e → Good s → Good (addPlanes e s)
-unfolding addPlanes
-add-good h g = record { g0 = ⊞-words (g .g0) h; g1 = ⊞-words (g .g1) h; g2 = ⊞-words (g .g2) h }
+by-good : (f : Plane → Plane) {s : State} → Words (f (parity s)) → Good s → Good (by f s)
+unfolding by addPlanes
+by-good f {s} h g =
+    let e : Words (parity s ⊞ f (parity s)) = ⊞-words (parity-words g) h in
+    record { g0 = ⊞-words (g .g0) e; g1 = ⊞-words (g .g1) e; g2 = ⊞-words (g .g2) e }
 
-theta-is : (s : State) → Good s → theta s ≡ by (mix 1 5 14) s
-unfolding theta effect by
-theta-is s g = ap (λ (e : Plane). addPlanes e s) (mix-5-14 (parity-words g))
-
-pub theta-good : {s : State} → Good s → Good (theta s)
-unfolding by
-theta-good {s} g = rw (theta-is s g) (add-good (mix-words 1 5 14 (parity-words g)) g)
-
--- ---- twice by (m, i, j) is once by (2m, 2i, 2j)
 parity-add : (e : Plane) (s : State) → parity (addPlanes e s) ≡ parity s ⊞ e
 unfolding parity addPlanes
 parity-add e s = simp plane-sum
@@ -36,63 +30,124 @@ add-add : (d e : Plane) (s : State) → addPlanes d (addPlanes e s) ≡ addPlane
 unfolding addPlanes
 add-add d e s = state≡ (⊞-assoc (s .p0) e d) (⊞-assoc (s .p1) e d) (⊞-assoc (s .p2) e d)
 
-by-by : (m i j : ℕ) (s : State) → by (mix m i j) (by (mix m i j) s) ≡ by (mix (m + m) (i + i) (j + j)) s
+pub by-by : (f g : Plane → Plane) (s : State) → by f (by g s) ≡ by (λ p. f (g p)) s
 unfolding by
-by-by m i j s =
+by-by f g s =
     let P : Plane = parity s in
-    ap (λ (x : Plane). addPlanes (mix m i j x) (addPlanes (mix m i j P) s)) (parity-add (mix m i j P) s)
-    ∙ add-add (mix m i j (P ⊞ mix m i j P)) (mix m i j P) s
-    ∙ ap (λ (x : Plane). addPlanes (mix m i j P ⊞ x) s) (mix-⊞ m i j P (mix m i j P))
-    ∙ ap (λ (x : Plane). addPlanes x s) (⊞-cancel (mix m i j P) (mix m i j (mix m i j P)) ∙ mix-mix m i j P)
+    let Q : parity (addPlanes (P ⊞ g P) s) ≡ g P = parity-add (P ⊞ g P) s ∙ ⊞-cancel P (g P) in
+    ap (λ (q : Plane). addPlanes (q ⊞ f q) (addPlanes (P ⊞ g P) s)) Q ∙ add-add (g P ⊞ f (g P)) (P ⊞ g P) s
+    ∙ ap (λ (e : Plane). addPlanes e s) (simp plane-sum)
 
--- ---- so theta done 32 times is known by five doublings
-pub times-times : (n k : ℕ) (f : State → State) (s : State) → times n f (times k f s) ≡ times (k + n) f s
-unfolding times
-times-times zero k f s = rw add-zero
-times-times (suc n) k f s = rw add-suc (ap f (times-times n k f s))
+-- where the parity stays, the state does
+pub by-same : (f : Plane → Plane) (s : State) → f (parity s) ≡ parity s → by f s ≡ s
+unfolding by addPlanes
+by-same f s e = rw (e, ⊞-self) (state≡ (⊞-none (s .p0)) (⊞-none (s .p1)) (⊞-none (s .p2)))
 
-times-good : (n : ℕ) {s : State} → Good s → Good (times n theta s)
-unfolding times
-times-good zero g = g
-times-good (suc n) g = theta-good (times-good n g)
+-- ---- a step: twice the same is one step twice as far, and two steps may be swapped
+pub more : ℕ → ℕ → ℕ → Plane → Plane
+more m i j p = p ⊞ mix m i j p
 
--- theta done n times is by (m, i, j)
-Is : ℕ → ℕ → ℕ → ℕ → Type 0
-Is n m i j = (s : State) → Good s → times n theta s ≡ by (mix m i j) s
+more-words : (m i j : ℕ) {p : Plane} → Words p → Words (more m i j p)
+unfolding more
+more-words m i j h = ⊞-words h (mix-words m i j h)
 
-once : Is 1 1 5 14
-unfolding Is times
-once = theta-is
+pub more-more : (m i j : ℕ) (p : Plane) → more m i j (more m i j p) ≡ more (m + m) (i + i) (j + j) p
+unfolding more
+more-more m i j p = rw (mix-⊞, mix-mix) (simp plane-sum)
 
-double : (n m i j : ℕ) → Is n m i j → Is (n + n) (m + m) (i + i) (j + j)
-unfolding Is
-double n m i j e s g =
-    sym (times-times n n theta s) ∙ e (times n theta s) (times-good n g) ∙ ap (by (mix m i j)) (e s g) ∙ by-by m i j s
+more-swap : (m i j n k l : ℕ) (p : Plane) → more m i j (more n k l p) ≡ more n k l (more m i j p)
+unfolding more
+more-swap m i j n k l p = simp mix-⊞ (rw (mix-swap m i j n k l p) (simp plane-sum))
 
-is-32 : Is 32 32 160 448
-is-32 = double 16 16 80 224 (double 8 8 40 112 (double 4 4 20 56 (double 2 2 10 28 (double 1 1 5 14 once))))
+pub more-32 : {p : Plane} → Words p → more 32 160 448 p ≡ p
+unfolding more
+more-32 {p} h = rw (mix-32 h) (⊞-none p)
 
-add-none : (s : State) → addPlanes none s ≡ s
-unfolding addPlanes
-add-none s = state≡ (⊞-none (s .p0)) (⊞-none (s .p1)) (⊞-none (s .p2))
+pub theta-is : (s : State) → Good s → theta s ≡ by (more 1 5 14) s
+unfolding theta effect by more ups
+theta-is s g =
+    ap (λ (e : Plane). addPlanes e s)
+    (mix-is 1 5 14 (omega arith) (omega arith) (parity-words g) ∙ sym (⊞-cancel (parity s) (mix 1 5 14 (parity s))))
 
-pub theta-32 : (s : State) → Good s → times 32 theta s ≡ s
-unfolding Is by
-theta-32 s g = is-32 s g ∙ ap (λ (e : Plane). addPlanes e s) (mix-none (parity-words g)) ∙ add-none s
+pub theta-good : {s : State} → Good s → Good (theta s)
+theta-good {s} g = rw (theta-is s g) (by-good (more 1 5 14) (more-words 1 5 14 (parity-words g)) g)
+
+-- ---- the five steps
+step-is : (m i j : ℕ) {p : Plane} → i ≤ 32 → j ≤ 32 → Words p → step m i j p ≡ more m i j p
+unfolding step spread more
+step-is m i j {p} hi hj h = ap (λ (q : Plane). p ⊞ q) (mix-is m i j hi hj h)
+
+is-1 : {p : Plane} → Words p → step 1 5 14 p ≡ more 1 5 14 p
+is-1 h = step-is 1 5 14 (omega arith) (omega arith) h
+
+is-2 : {p : Plane} → Words p → step 2 10 28 p ≡ more 2 10 28 p
+is-2 h = step-is 2 10 28 (omega arith) (omega arith) h
+
+is-4 : {p : Plane} → Words p → step 0 20 24 p ≡ more 4 20 56 p
+unfolding more
+is-4 {p} h = step-is 0 20 24 (omega arith) (omega arith) h ∙ ap (λ (q : Plane). p ⊞ q) (sym (mix-4 h))
+
+is-8 : {p : Plane} → Words p → step 0 8 16 p ≡ more 8 40 112 p
+unfolding more
+is-8 {p} h = step-is 0 8 16 (omega arith) (omega arith) h ∙ ap (λ (q : Plane). p ⊞ q) (sym (mix-8 h))
+
+is-16 : {p : Plane} → Words p → each (rotl 16) p ≡ more 16 80 224 p
+unfolding more
+is-16 {p} h = rotls-is 16 (omega arith) h ∙ sym (rw (mix-16 h) (simp plane-sum))
+
+module _ {p : Plane} (h : Words p) where
+  w1 : Words (more 1 5 14 p)
+  w1 = more-words 1 5 14 h
+
+  w3 : Words (more 2 10 28 (more 1 5 14 p))
+  w3 = more-words 2 10 28 w1
+
+  w7 : Words (more 4 20 56 (more 2 10 28 (more 1 5 14 p)))
+  w7 = more-words 4 20 56 w3
+
+  w15 : Words (more 8 40 112 (more 4 20 56 (more 2 10 28 (more 1 5 14 p))))
+  w15 = more-words 8 40 112 w7
+
+  unparity-is : unparity p ≡ more 16 80 224 (more 8 40 112 (more 4 20 56 (more 2 10 28 (more 1 5 14 p))))
+  unfolding unparity
+  unparity-is = rw (is-1 h, is-2 w1, is-4 w3, is-8 w7) (is-16 w15)
+
+  unparity-words : Words (unparity p)
+  unparity-words = rw unparity-is (more-words 16 80 224 w15)
+
+  -- with one more of the first, all five double up to 32
+  all-32 : more 16 80 224 (more 8 40 112 (more 4 20 56 (more 2 10 28 (more 1 5 14 (more 1 5 14 p))))) ≡ p
+  all-32 =
+      rw (more-more 1 5 14 p, more-more 2 10 28 p, more-more 4 20 56 p, more-more 8 40 112 p, more-more 16 80 224 p)
+      (more-32 h)
+
+unparity-more : {p : Plane} → Words p → unparity (more 1 5 14 p) ≡ p
+unparity-more h = unparity-is (more-words 1 5 14 h) ∙ all-32 h
+
+more-unparity : {p : Plane} → Words p → more 1 5 14 (unparity p) ≡ p
+more-unparity h =
+    rw (
+      unparity-is h,
+      more-swap 1 5 14 16 80 224,
+      more-swap 1 5 14 8 40 112,
+      more-swap 1 5 14 4 20 56,
+      more-swap 1 5 14 2 10 28,
+    )
+    (all-32 h)
 
 -- ---- the inverse
 pub untheta-good : {s : State} → Good s → Good (untheta s)
-unfolding untheta
-untheta-good g = times-good 31 g
-
-one-time : (s : State) → times 1 theta s ≡ theta s
-unfolding times
-one-time s = refl
+unfolding untheta by
+untheta-good g = by-good unparity (unparity-words (parity-words g)) g
 
 pub untheta-theta : (s : State) → Good s → untheta (theta s) ≡ s
-unfolding untheta
-untheta-theta s g = ap (times 31 theta) (sym (one-time s)) ∙ times-times 31 1 theta s ∙ theta-32 s g
+unfolding untheta by
+untheta-theta s g =
+    ap untheta (theta-is s g) ∙ by-by unparity (more 1 5 14) s
+    ∙ by-same (λ p. unparity (more 1 5 14 p)) s (unparity-more (parity-words g))
 
 pub theta-untheta : (s : State) → Good s → theta (untheta s) ≡ s
-unfolding untheta
-theta-untheta s g = sym (one-time (times 31 theta s)) ∙ times-times 1 31 theta s ∙ theta-32 s g
+unfolding untheta by
+theta-untheta s g =
+    theta-is (untheta s) (untheta-good g) ∙ by-by (more 1 5 14) unparity s
+    ∙ by-same (λ p. more 1 5 14 (unparity p)) s (more-unparity (parity-words g))

@@ -125,12 +125,27 @@ unfoldable pub xoodoo : List ℕ → List ℕ
 xoodoo b = xoodooRounds 12 b
 
 -- ---- the inverse of each step; iota and chi are their own
-unfoldable pub times : ℕ → (State → State) → State → State
-times zero f s = s
-times (suc n) f s = f (times n f s)
+-- m columns up
+unfoldable pub ups : ℕ → Plane → Plane
+ups zero p = p
+ups (suc m) p = up (ups m p)
 
+-- p rotated by i, xor p rotated by j
+unfoldable pub spread : ℕ → ℕ → Plane → Plane
+spread i j p = each (rotl i) p ⊞ each (rotl j) p
+
+-- p gains what it has m columns below, rotated by i, xor the same rotated by j; by 1, 5 and 14 it is what theta makes of the parity
+unfoldable pub step : ℕ → ℕ → ℕ → Plane → Plane
+step m i j p = p ⊞ ups m (spread i j p)
+
+-- the parity before theta, by 1, 2, 4, 8 and 16 more thetas, since 32 change nothing: the numbers double at each step, columns
+-- modulo 4 and rotations modulo 32, and the last step, by 0, 16 and 0, is the rotation alone
+unfoldable pub unparity : Plane → Plane
+unparity p = each (rotl 16) (step 0 8 16 (step 0 20 24 (step 2 10 28 (step 1 5 14 p))))
+
+-- what the parity has to gain is added to all three planes
 unfoldable pub untheta : State → State
-untheta s = times 31 theta s
+untheta s = addPlanes (parity s ⊞ unparity (parity s)) s
 
 unfoldable pub unrhoWest : State → State
 unrhoWest s = record { p0 = s .p0; p1 = up (up (up (s .p1))); p2 = each (rotl 21) (s .p2) }

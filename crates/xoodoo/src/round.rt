@@ -54,7 +54,7 @@ pub(crate) fn rotated4(p: Plane, k: u32) -> Plane
     }
 }
 
-fn xor4(p: Plane, q: Plane) -> Plane
+pub(crate) fn xor4(p: Plane, q: Plane) -> Plane
     ensures { λ r. ⌜ r ≡ p ⊞ q ⌝ }
 {
     Plane {
@@ -77,7 +77,7 @@ pub(crate) fn up(p: Plane) -> Plane
     }
 }
 
-fn parity(s: State) -> Plane
+pub(crate) fn parity(s: State) -> Plane
     ensures { λ r. ⌜ r ≡ xoodoo.parity s ⌝ }
 {
     xor4(xor4(s.p0, s.p1), s.p2)
@@ -89,7 +89,7 @@ fn effect(p: Plane) -> Plane
     up(xor4(rotated4(p, 5), rotated4(p, 14)))
 }
 
-fn add_planes(e: Plane, s: State) -> State
+pub(crate) fn add_planes(e: Plane, s: State) -> State
     ensures { λ r. ⌜ r ≡ addPlanes e s ⌝ }
 {
     State {
@@ -99,7 +99,7 @@ fn add_planes(e: Plane, s: State) -> State
     }
 }
 
-pub(crate) fn theta(s: State) -> State
+fn theta(s: State) -> State
     ensures { λ r. ⌜ r ≡ xoodoo.theta s ⌝ }
 {
     add_planes(effect(parity(s)), s)

@@ -1,27 +1,44 @@
 // The inverse of each step of the round, and the rounds taken back.
 ghost use mathlib.Core.Path.{_≡_};
-ghost use Prim.Native.Nat.{_≤_};
+ghost use Prim.Native.Nat.{_<_, _≤_};
 ghost use Rattle.xoodoo.specs.Xoodoo as xoodoo;
 ghost use Rattle.xoodoo.specs.Xoodoo.{unrhoWest, unrhoEast, lastOf};
+use crate::round::Plane;
 use crate::round::ROUND_KEYS;
 use crate::round::State;
+use crate::round::add_planes;
 use crate::round::chi;
 use crate::round::iota;
+use crate::round::parity;
 use crate::round::rotated4;
-use crate::round::theta;
 use crate::round::up;
+use crate::round::xor4;
 
-// Theta done 32 times changes nothing, so 31 more undo one.
+// The plane rotated by i, xor the plane rotated by j.
+fn spread(i: u32, j: u32, p: Plane) -> Plane
+    requires { ⌜ (0 < i) × (i < 32) × (0 < j) × (j < 32) ⌝ }
+    ensures { λ r. ⌜ r ≡ xoodoo.spread i j p ⌝ }
+{
+    xor4(rotated4(p, i), rotated4(p, j))
+}
+
+// The parity before theta, from the one after it: each step is worth twice as many thetas as the one before.
+fn unparity(p: Plane) -> Plane
+    ensures { λ r. ⌜ r ≡ xoodoo.unparity p ⌝ }
+{
+    let a = xor4(p, up(spread(5, 14, p)));
+    let b = xor4(a, up(up(spread(10, 28, a))));
+    let c = xor4(b, spread(20, 24, b));
+    let d = xor4(c, spread(8, 16, c));
+    rotated4(d, 16)
+}
+
+// Theta is undone on the parity alone.
 fn untheta(s: State) -> State
     ensures { λ r. ⌜ r ≡ xoodoo.untheta s ⌝ }
 {
-    let mut t = s;
-    let mut i: usize = 0;
-    while i < 31 {
-        t = theta(t);
-        i += 1;
-    }
-    t
+    let p = parity(s);
+    add_planes(xor4(p, unparity(p)), s)
 }
 
 fn unrho_west(s: State) -> State
