@@ -10,7 +10,8 @@ import sys
 
 LONGEST_LINE = 40000
 LONGEST_BYTES = 16384
-KEY_REQUIRED, PARAMETER_LENGTH, BUFFER_LENGTH, TAG_MISMATCH, BAD_RATE, BAD_RUN, BAD_COUNT = 1, 2, 3, 4, 5, 6, 11
+KEY_REQUIRED, KEY_TOO_LONG, SHORT_OUTPUT, TAG_MISMATCH, BAD_RATE, BAD_RUN = 1, 2, 3, 4, 5, 6
+ID_TOO_LONG, NONCE_TOO_LONG, SHORT_INPUT, BAD_COUNT = 8, 9, 10, 11
 
 # ---- Xoodoo: a plane is a number of 128 bits, column x at bits 32x to 32x+31 ----
 
@@ -273,7 +274,13 @@ class Session:
 
 
 def key_refused(key, key_id, nonce):
-    return PARAMETER_LENGTH if len(key) + 1 + len(key_id or b"") + len(nonce or b"") > 44 else 0
+    """2 when the key alone exceeds 43; 8 when the key fits but key and id together exceed 43; 9 when only the nonce breaks it."""
+    with_id = len(key) + len(key_id or b"")
+    return first_of(
+        KEY_TOO_LONG if len(key) > 43 else 0,
+        ID_TOO_LONG if with_id > 43 else 0,
+        NONCE_TOO_LONG if with_id + 1 + len(nonce or b"") > 44 else 0,
+    )
 
 
 def key_absorbs(key, key_id, nonce, counter):
@@ -449,11 +456,11 @@ class Runner:
     # Encryption and sealing. A refused call answers its buffer as it was; bytes past the result stay.
 
     def refusal(self, result, n, too_short_an_input=False):
-        """1 before 3 for the input before 3 for the output."""
+        """1 before 10 for the input before 3 for the output, which tells how many bytes are missing."""
         return first_of(
             self.session.key_required(),
-            BUFFER_LENGTH if too_short_an_input else 0,
-            BUFFER_LENGTH if n < result else 0,
+            SHORT_INPUT if too_short_an_input else 0,
+            "%d:%d" % (SHORT_OUTPUT, result - n) if n < result else 0,
         )
 
     def crypt(self, n, data, decrypting):

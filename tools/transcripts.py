@@ -86,7 +86,7 @@ class Script:
     def expect(self, answer, *words):
         """Asks, and stops the making where the answer is another one."""
         got = self.ask(*words)
-        if got != answer:
+        if got != str(answer):
             stop("line %d: %s\n  answered %s\n  expected %s" % (len(self.lines), self.lines[-1][:200], got, answer))
 
     def bytes(self, length):
@@ -207,7 +207,7 @@ class RandomScript(Script):
     def key_words(self):
         """Key, key id and nonce within 44 or at and just above it; a counter that is absent, empty or present."""
         pick = self.random
-        id_length, nonce_length = pick.choice([0, 1, 8, 12, 16]), pick.choice([0, 1, 8, 11, 12, 16])
+        id_length, nonce_length = pick.choice([0, 1, 8, 12, 16, 27, 43]), pick.choice([0, 1, 8, 11, 12, 16])
         left = 43 - id_length - nonce_length
         key_length = pick.choice([0, 1, 16, left - 1, left, left, left + 1, 16, pick.randrange(44)])
         counter = pick.choice(["-", "-", "-" + self.data(2), ".", self.data(1), self.data(pick.randrange(2, 9))])
@@ -552,7 +552,7 @@ class StoredScript(Script):
             before = self.ask("state")
             self.expect("0 .", *n.split(" "))
             self.expect(before, "state")
-        self.expect("2", "new", self.data(16), self.data(12), self.data(16), "-")
+        self.expect("9", "new", self.data(16), self.data(12), self.data(16), "-")
         self.expect("1 a5", "encrypt", 1, "0000")
         self.expect("1 a5a5a5", "decrypt", 3, "0000")
         for phase in ["squeeze 3", "absorb 05"]:
@@ -609,7 +609,7 @@ class StoredScript(Script):
             self.begin("keyed")
             for n in edges[1:]:
                 for room in sorted({0, n // 2, n - 1}):
-                    self.expect("3 " + ("a5" * room or "."), name, room, self.data(n))
+                    self.expect("3:%d %s" % (n - room, "a5" * room or "."), name, room, self.data(n))
             self.ask("state")
             for n in [0, 24, 48, 1, 23, 25, 49]:
                 for more in [1, 7, 24, 100]:
@@ -644,17 +644,18 @@ class StoredScript(Script):
                     self.expect("0", "new", "00112233", nonce, key_id, counter)
                     self.ask("state")
         self.note("lengths that make 44, and one more")
-        lengths = [(0, 43, None), (0, 0, 43), (43, None, None), (43, 0, 0), (1, 21, 21), (16, 16, 11), (27, 16, None)]
-        for key, nonce, key_id in lengths:
+        lengths = [(0, 43, None, 9), (0, 0, 43, 8), (43, None, None, 2), (43, 0, 0, 2), (1, 21, 21, 9), (16, 16, 11, 9),
+                   (27, 16, None, 9)]
+        for key, nonce, key_id, number in lengths:
             for more in [0, 1]:
                 for counter in ["-", "07"]:
                     nonce_and_id = ["-" if n is None else self.data(n) for n in (nonce, key_id)]
-                    self.expect("2" if more else "0", "new", self.data(key + more), *nonce_and_id, counter)
+                    self.expect(number if more else 0, "new", self.data(key + more), *nonce_and_id, counter)
                     self.ask("state")
-        self.expect("2", "new", "00", self.data(200), "-", "-")
-        self.expect("2", "new", "00", "-", self.data(300), "-")
+        self.expect("9", "new", "00", self.data(200), "-", "-")
+        self.expect("8", "new", "00", "-", self.data(300), "-")
         self.expect("2", "new", self.data(16384), ".", ".", ".")
-        self.expect("2", "new", "00", self.data(43), "00", "-")
+        self.expect("9", "new", "00", self.data(43), "00", "-")
         self.expect("0", "new", "00", "-" + self.data(300), "-" + self.data(300), "-")
         self.ask("state")
         self.note("the longest line, of 40000 bytes, and one byte more")
@@ -666,7 +667,7 @@ class StoredScript(Script):
                  for c in ["-", ".", "0506"]]
         self.in_both_phases("keyed", [("key", *w) for w in words])
         self.expect("2", "key", self.data(44), "-", "-", "-")
-        self.expect("2", "key", self.data(16), self.data(16), self.data(12), ".")
+        self.expect("9", "key", self.data(16), self.data(16), self.data(12), ".")
         self.ask("state")
         self.note("a key call on a Hash session, also one that is too long")
         self.begin("hash")
@@ -775,8 +776,8 @@ class StoredScript(Script):
         whole = b"".join(sealed_of(self.ask(*seal_line("combined", self.bytes(24)))))
         for length in range(40):
             cut = whole[:length]
-            copied = "3 ." if length < 16 else mismatch_answer("combined", length - 16, b"")
-            in_place = "3 %s ." % word(cut) if length < 16 else mismatch_answer("in_place", length - 16, cut[-16:])
+            copied = "10 ." if length < 16 else mismatch_answer("combined", length - 16, b"")
+            in_place = "10 %s ." % word(cut) if length < 16 else mismatch_answer("in_place", length - 16, cut[-16:])
             self.ask(*start)
             self.expect(copied, "aead_decrypt", max(length - 16, 0), word(cut))
             self.ask(*start)
@@ -790,7 +791,7 @@ class StoredScript(Script):
             self.ask(*start)
             data = self.data(length)
             answer = self.ask("aead_encrypt_in_place", data)
-            if (length < 16) != (answer == "3 " + data):
+            if (length < 16) != (answer == "10 " + data):
                 stop("aead_encrypt_in_place of %d bytes: %s" % (length, answer))
             self.ask("state")
         self.note("a combined opening of 16 bytes into an empty output is a tag decision (W10)")
@@ -800,17 +801,17 @@ class StoredScript(Script):
         self.expect("0 .", "aead_decrypt", 0, word(empty_tag))
         self.ask(*start)
         self.expect("4 .", "aead_decrypt", 0, word(flipped(empty_tag, 0)))
-        self.expect("3 .", "aead_decrypt", 0, word(empty_tag[:15]))
+        self.expect("10 .", "aead_decrypt", 0, word(empty_tag[:15]))
         self.note("too short an output; an input that is too short comes first; a Hash session before both")
         self.ask(*start)
-        for words, answer in [(("aead_encrypt_detached", 24, word(message)), "3 " + "a5" * 24 + " " + "00" * 16),
-                              (("aead_encrypt", 40, word(message)), "3 " + "a5" * 40),
-                              (("aead_encrypt", 15, "-"), "3 " + "a5" * 15),
-                              (("aead_decrypt_detached", 24, word(tag), word(ciphertext)), "3 " + "a5" * 24),
-                              (("aead_decrypt", 24, word(ciphertext + tag)), "3 " + "a5" * 24),
-                              (("aead_decrypt", 3, word(tag[:15])), "3 a5a5a5"),
-                              (("aead_encrypt_in_place", word(tag[:15])), "3 " + word(tag[:15])),
-                              (("aead_decrypt_in_place", word(tag[:15])), "3 " + word(tag[:15]) + " .")]:
+        for words, answer in [(("aead_encrypt_detached", 24, word(message)), "3:1 " + "a5" * 24 + " " + "00" * 16),
+                              (("aead_encrypt", 40, word(message)), "3:1 " + "a5" * 40),
+                              (("aead_encrypt", 15, "-"), "3:1 " + "a5" * 15),
+                              (("aead_decrypt_detached", 24, word(tag), word(ciphertext)), "3:1 " + "a5" * 24),
+                              (("aead_decrypt", 24, word(ciphertext + tag)), "3:1 " + "a5" * 24),
+                              (("aead_decrypt", 3, word(tag[:15])), "10 a5a5a5"),
+                              (("aead_encrypt_in_place", word(tag[:15])), "10 " + word(tag[:15])),
+                              (("aead_decrypt_in_place", word(tag[:15])), "10 " + word(tag[:15]) + " .")]:
             self.expect(answer, *words)
             self.ask("state")
         self.begin("hash")
@@ -978,7 +979,8 @@ class StoredScript(Script):
             for data, at in [("00", 0), (".", 0), (".", rate), ("00", 2**64 - 1)]:
                 self.expect("5", "back", "up", "absorb_more", data, at)
             for words in [(self.data(44), "-", "-", "-"), (self.data(16), self.data(16), self.data(12), "-")]:
-                self.expect("1" if mode == "hash" else "2", "back", "up", "key", *words)
+                number = 2 if words[1] == "-" else 9
+                self.expect(1 if mode == "hash" else number, "back", "up", "key", *words)
             if mode == "hash":
                 self.expect("1", "back", "up", "key", "00", "-", "-", "-")
                 for kind, data in [("encrypt", "00"), ("encrypt", "."), ("seal", "00"), ("seal", ".")]:
@@ -990,6 +992,55 @@ class StoredScript(Script):
                      "back up squeeze .", "back up squeeze 16385", "back up key 00 - -", "back up seal",
                      "back up seal -", "back up encrypt 1 00", "back up decrypt 00", "back up hash"]:
             self.expect("bad", line.encode())
+        self.ask("state")
+
+    # Which part was too long, and by how much an output is too short.
+
+    def key_lengths(self):
+        """Key, key id and nonce of 43 bytes together and of one more, each with its number; an absent one may hold bytes."""
+        lengths = [(0, 43, None, None), (2, 44, None, None), (2, 44, 0, 0), (2, 44, 44, 44),
+                   (0, 16, 27, None), (8, 16, 28, None), (0, 0, 43, None), (8, 0, 44, None), (8, 43, 1, None),
+                   (0, 16, None, 27), (9, 16, None, 28), (0, 0, None, 43), (9, 0, None, 44), (9, 43, None, 1),
+                   (0, 16, 16, 11), (9, 16, 16, 12), (0, 16, 27, 0), (9, 16, 27, 1), (8, 16, 28, 0), (8, 16, 28, 12)]
+        for number, key, key_id, nonce in lengths:
+            for absent in ["-"] if None not in (key_id, nonce) else ["-", "-" + self.data(44)]:
+                yield number, (self.data(key), *[absent if n is None else self.data(n) for n in (key_id, nonce)], "-")
+
+    def lengths_refused(self):
+        self.note("key, key id and nonce of 43 bytes together and of 44: 2 for the key, 8 with the key id, 9 for the nonce only")
+        for number, (key, key_id, nonce, counter) in list(self.key_lengths()):
+            self.expect(number, "new", key, nonce, key_id, counter)
+            self.ask("state")
+            self.begin("keyed")
+            self.expect(number, "key", key, key_id, nonce, counter)
+            self.expect(number, "back", "up", "key", key, key_id, nonce, counter)
+            self.ask("state")
+        self.note("15 and 16 bytes where a tag ends the input: 10, before 3, whatever the output")
+        self.begin("keyed")
+        for room in [0, 3]:
+            kept = "a5" * room or "."
+            for length in [0, 1, 15]:
+                self.expect("10 " + kept, "aead_decrypt", room, self.data(length))
+            self.expect("4 " + word(bytes(room)), "aead_decrypt", room, self.data(16))
+        for name, more in [("aead_encrypt_in_place", ""), ("aead_decrypt_in_place", " .")]:
+            data = self.data(15)
+            self.expect("10 " + data + more, name, data)
+            self.ask(name, self.data(16))
+            self.ask("state")
+        self.note("outputs short by 1, by 16 and by all")
+        self.begin("keyed")
+        for length, room in [(25, 24), (25, 9), (25, 0), (16, 0), (1, 0)]:
+            message, kept = self.data(length), "a5" * room or "."
+            short = "3:%d %s" % (length - room, kept)
+            for name in ["encrypt", "decrypt"]:
+                self.expect(short, name, room, message)
+            self.expect(short + " " + word(bytes(16)), "aead_encrypt_detached", room, message)
+            self.expect("3:%d %s" % (length - room, "a5" * (room + 16)), "aead_encrypt", room + 16, message)
+            self.expect("3:%d %s" % (length + 16 - room, kept), "aead_encrypt", room, message)
+            self.expect(short, "aead_decrypt_detached", room, self.data(16), message)
+            self.expect(short, "aead_decrypt", room, message + self.data(16))
+            self.ask("state")
+        self.expect("3:16 .", "aead_encrypt", 0, "-")
         self.ask("state")
 
     def differences(self, layer):
@@ -1052,6 +1103,7 @@ class StoredScript(Script):
         if layer == "all":
             self.walks()
             self.back_each()
+            self.lengths_refused()
         shown = self.differences(layer)
         self.note("the last line has no line feed")
         self.ask("x_state")

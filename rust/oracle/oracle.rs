@@ -73,18 +73,42 @@ fn hex(bytes: &[u8]) -> String {
     bytes.iter().flat_map(|b| [digit(b >> 4), digit(b & 15)]).collect()
 }
 
-fn code<T>(result: &Result<T, XoodyakError>) -> u8 {
-    match result {
-        Ok(_) => 0,
-        Err(XoodyakError::KeyRequired) => 1,
-        Err(XoodyakError::InvalidParameterLength) => 2,
-        Err(XoodyakError::InvalidBufferLength) => 3,
-        Err(XoodyakError::TagMismatch) => 4,
+// The lengths of a line's words that a call can refuse.
+enum Lengths<'a> {
+    None,
+    // Key, key id and nonce.
+    Key(&'a [u8], &'a Option<Vec<u8>>, &'a Option<Vec<u8>>),
+    // An output and its result.
+    Output(usize, usize),
+    // What ends in a tag of 16 bytes, and the output for what comes before the tag; in place they are one buffer.
+    Tagged(usize, usize),
+}
+
+// The number of a result. The original has one error for a key call's lengths and one for a buffer's, where the port says
+// which part was too long or too short and how many bytes an output lacks: this is read off the line's words, here alone.
+// InvalidParameterLength is 2, 8 or 9 as key, key and key id, or only the nonce too exceed the 43 bytes that they may have
+// together; InvalidBufferLength is 10 for a tagged input under 16 bytes, and 3 with the count for an output.
+fn code<T>(result: &Result<T, XoodyakError>, lengths: Lengths) -> String {
+    let error = match result {
+        Ok(_) => return "0".to_string(),
+        Err(error) => error,
+    };
+    let missing = |result: usize, output: usize| format!("3:{}", result as i64 - output as i64);
+    match (error, lengths) {
+        (XoodyakError::KeyRequired, _) => "1".to_string(),
+        (XoodyakError::InvalidParameterLength, Lengths::Key(key, _, _)) if key.len() > 43 => "2".to_string(),
+        (XoodyakError::InvalidParameterLength, Lengths::Key(key, Some(id), _)) if key.len() + id.len() > 43 => "8".to_string(),
+        (XoodyakError::InvalidParameterLength, Lengths::Key(_, _, Some(_))) => "9".to_string(),
+        (XoodyakError::InvalidBufferLength, Lengths::Tagged(input, _)) if input < 16 => "10".to_string(),
+        (XoodyakError::InvalidBufferLength, Lengths::Tagged(input, output)) => missing(input - 16, output),
+        (XoodyakError::InvalidBufferLength, Lengths::Output(output, result)) => missing(result, output),
+        (XoodyakError::TagMismatch, _) => "4".to_string(),
+        _ => "unmapped".to_string(),
     }
 }
 
-fn with_tag(result: Result<XoodyakTag, XoodyakError>, buffer: &[u8]) -> String {
-    let number = code(&result);
+fn with_tag(result: Result<XoodyakTag, XoodyakError>, lengths: Lengths, buffer: &[u8]) -> String {
+    let number = code(&result, lengths);
     format!("{} {} {}", number, hex(buffer), hex(result.unwrap_or_default().as_ref()))
 }
 
@@ -137,14 +161,14 @@ impl Runner {
             ["new", key, nonce, id, counter] => {
                 let (key, nonce, id, counter) = (bytes(key)?, optional(nonce)?, optional(id)?, optional(counter)?);
                 let made = XoodyakKeyed::new(&key, nonce.as_deref(), id.as_deref(), counter.as_deref());
-                let number = code(&made);
+                let number = code(&made, Lengths::Key(&key, &id, &nonce));
                 self.session = made.map_or_else(|_| fresh_hash(), XoodyakAny::Keyed);
-                number.to_string()
+                number
             }
             ["key", key, id, nonce, counter] => {
                 let (key, id, nonce, counter) = (bytes(key)?, optional(id)?, optional(nonce)?, optional(counter)?);
                 let done = self.session.absorb_key_and_nonce(&key, id.as_deref(), nonce.as_deref(), counter.as_deref());
-                code(&done).to_string()
+                code(&done, Lengths::Key(&key, &id, &nonce))
             }
             ["absorb", data] => {
                 self.session.absorb(&bytes(data)?);
@@ -173,14 +197,14 @@ impl Runner {
                 self.session.squeeze_more(&mut out);
                 format!("0 {}", hex(&out))
             }
-            ["ratchet"] => code(&self.session.ratchet()).to_string(),
+            ["ratchet"] => code(&self.session.ratchet(), Lengths::None),
             ["encrypt", n, data] => {
                 let (mut out, data) = (unwritten(length(n)?), bytes(data)?);
                 if self.spills(out.len(), data.len(), data.len()) {
                     return Some(UNSUPPORTED.to_string());
                 }
                 let done = self.session.encrypt(&mut out, &data);
-                format!("{} {}", code(&done), hex(&out))
+                format!("{} {}", code(&done, Lengths::Output(out.len(), data.len())), hex(&out))
             }
             ["decrypt", n, data] => {
                 let (mut out, data) = (unwritten(length(n)?), bytes(data)?);
@@ -188,17 +212,17 @@ impl Runner {
                     return Some(UNSUPPORTED.to_string());
                 }
                 let done = self.session.decrypt(&mut out, &data);
-                format!("{} {}", code(&done), hex(&out))
+                format!("{} {}", code(&done, Lengths::Output(out.len(), data.len())), hex(&out))
             }
             ["encrypt_in_place", data] => {
                 let mut data = bytes(data)?;
                 let done = self.session.encrypt_in_place(&mut data);
-                format!("{} {}", code(&done), hex(&data))
+                format!("{} {}", code(&done, Lengths::None), hex(&data))
             }
             ["decrypt_in_place", data] => {
                 let mut data = bytes(data)?;
                 let done = self.session.decrypt_in_place(&mut data);
-                format!("{} {}", code(&done), hex(&data))
+                format!("{} {}", code(&done, Lengths::None), hex(&data))
             }
             ["aead_encrypt_detached", n, data] => {
                 let (mut out, data) = (unwritten(length(n)?), optional(data)?);
@@ -207,7 +231,7 @@ impl Runner {
                     return Some(UNSUPPORTED.to_string());
                 }
                 let done = self.session.aead_encrypt_detached(&mut out, data.as_deref());
-                with_tag(done, &out)
+                with_tag(done, Lengths::Output(out.len(), message), &out)
             }
             ["aead_encrypt", n, data] => {
                 let (mut out, data) = (unwritten(length(n)?), optional(data)?);
@@ -216,7 +240,7 @@ impl Runner {
                     return Some(UNSUPPORTED.to_string());
                 }
                 let done = self.session.aead_encrypt(&mut out, data.as_deref());
-                format!("{} {}", code(&done), hex(&out))
+                format!("{} {}", code(&done, Lengths::Output(out.len(), message + 16)), hex(&out))
             }
             ["aead_decrypt_detached", n, tag, data] => {
                 let (mut out, tag, data) = (unwritten(length(n)?), XoodyakTag::from(array(tag)?), optional(data)?);
@@ -225,7 +249,7 @@ impl Runner {
                     return Some(UNSUPPORTED.to_string());
                 }
                 let done = self.session.aead_decrypt_detached(&mut out, &tag, data.as_deref());
-                format!("{} {}", code(&done), hex(&out))
+                format!("{} {}", code(&done, Lengths::Output(out.len(), message)), hex(&out))
             }
             ["aead_decrypt", n, data] => {
                 let (mut out, data) = (unwritten(length(n)?), bytes(data)?);
@@ -233,31 +257,32 @@ impl Runner {
                     return Some(UNSUPPORTED.to_string());
                 }
                 let done = self.session.aead_decrypt(&mut out, &data);
-                format!("{} {}", code(&done), hex(&out))
+                format!("{} {}", code(&done, Lengths::Tagged(data.len(), out.len())), hex(&out))
             }
             ["aead_encrypt_in_place_detached", data] => {
                 let mut data = bytes(data)?;
                 let done = self.session.aead_encrypt_in_place_detached(&mut data);
-                with_tag(done, &data)
+                with_tag(done, Lengths::None, &data)
             }
             ["aead_encrypt_in_place", data] => {
                 let mut data = bytes(data)?;
                 let done = self.session.aead_encrypt_in_place(&mut data);
-                format!("{} {}", code(&done), hex(&data))
+                format!("{} {}", code(&done, Lengths::Tagged(data.len(), data.len())), hex(&data))
             }
             ["aead_decrypt_in_place_detached", data, tag] => {
                 let (mut data, tag) = (bytes(data)?, XoodyakTag::from(array(tag)?));
                 let done = self.session.aead_decrypt_in_place_detached(&mut data, &tag);
-                format!("{} {}", code(&done), hex(&data))
+                format!("{} {}", code(&done, Lengths::None), hex(&data))
             }
             ["aead_decrypt_in_place", data] => {
                 let mut data = bytes(data)?;
                 let done = self.session.aead_decrypt_in_place(&mut data).map(|plaintext| plaintext.to_vec());
-                format!("{} {} {}", code(&done), hex(&data), hex(&done.unwrap_or_default()))
+                let number = code(&done, Lengths::Tagged(data.len(), data.len()));
+                format!("{} {} {}", number, hex(&data), hex(&done.unwrap_or_default()))
             }
             ["verify", one, other] => {
                 let (one, other) = (XoodyakTag::from(array(one)?), array(other)?);
-                code(&one.verify(other)).to_string()
+                code(&one.verify(other), Lengths::None)
             }
             ["state"] => self.state(),
             ["set", of, at, to] => {

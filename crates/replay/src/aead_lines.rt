@@ -32,11 +32,11 @@ fn encrypt(s: Session, detached: bool, words: &[u8], out: &mut [u8], at: &mut us
     if detached {
         let r = s.aead_encrypt_detached(buf, given.has, &bin[0..m]);
         let tag = r.tag.into_bytes();
-        out::number_buf_tag(out, at, r.number, buf, &tag);
+        out::number_buf_tag(out, at, r.number, r.missing, buf, &tag);
         return r.session;
     }
     let r = s.aead_encrypt(buf, given.has, &bin[0..m]);
-    out::number_buf(out, at, r.number, buf);
+    out::number_buf(out, at, r.number, r.missing, buf);
     r.session
 }
 
@@ -55,7 +55,7 @@ fn decrypt_detached(s: Session, words: &[u8], out: &mut [u8], at: &mut usize) ->
     }
     let buf = &mut store[0..n];
     let r = s.aead_decrypt_detached(buf, Tag::from_bytes(tag), given.has, &bin[0..m]);
-    out::number_buf(out, at, r.number, buf);
+    out::number_buf(out, at, r.number, r.missing, buf);
     r.session
 }
 
@@ -69,7 +69,7 @@ fn encrypt_in_place_detached(s: Session, words: &[u8], out: &mut [u8], at: &mut 
     let buf = &mut store[0..n];
     let r = s.aead_encrypt_in_place_detached(buf);
     let tag = r.tag.into_bytes();
-    out::number_buf_tag(out, at, r.number, buf, &tag);
+    out::number_buf_tag(out, at, r.number, r.missing, buf, &tag);
     r.session
 }
 
@@ -84,7 +84,7 @@ fn decrypt_in_place_detached(s: Session, words: &[u8], out: &mut [u8], at: &mut 
     }
     let buf = &mut store[0..n];
     let r = s.aead_decrypt_in_place_detached(buf, Tag::from_bytes(tag));
-    out::number_buf(out, at, r.number, buf);
+    out::number_buf(out, at, r.number, r.missing, buf);
     r.session
 }
 
@@ -103,10 +103,10 @@ fn decrypt_in_place(s: Session, words: &[u8], out: &mut [u8], at: &mut usize) ->
     let buf = &mut store[0..n];
     let r = s.aead_decrypt_in_place(buf);
     if r.number != 0 {
-        out::number_buf_more(out, at, r.number, buf, b"");
+        out::number_buf_more(out, at, r.number, r.missing, buf, b"");
         return r.session;
     }
-    out::number_then_buf(out, at, r.number, buf);
+    out::number_then_buf(out, at, r.number, r.missing, buf);
     plaintext(buf, out, at);
     r.session
 }

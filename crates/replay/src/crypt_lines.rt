@@ -49,7 +49,7 @@ pub fn copying(
     }
     let buf = &mut store[0..n];
     let r = copied(s, how, buf, &bin[0..m]);
-    out::number_buf(out, at, r.number, buf);
+    out::number_buf(out, at, r.number, r.missing, buf);
     r.session
 }
 
@@ -76,7 +76,7 @@ pub fn in_place(
     }
     let buf = &mut store[0..n];
     let r = changed(s, how, buf);
-    out::number_buf(out, at, r.number, buf);
+    out::number_buf(out, at, r.number, r.missing, buf);
     r.session
 }
 

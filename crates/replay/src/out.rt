@@ -67,8 +67,13 @@ pub fn number(out: &mut [u8], at: &mut usize, n: u8) {
     byte(out, at, b'\n');
 }
 
-pub fn number_then_buf(out: &mut [u8], at: &mut usize, n: u8, buf: &[u8]) {
+// A number, with 3 how many bytes the output lacks, and a buffer.
+pub fn number_then_buf(out: &mut [u8], at: &mut usize, n: u8, missing: usize, buf: &[u8]) {
     decimal(out, at, n as u64);
+    if n == 3 {
+        byte(out, at, b':');
+        decimal(out, at, missing as u64);
+    }
     byte(out, at, b' ');
     hex(out, at, buf);
 }
@@ -79,18 +84,31 @@ pub fn last(out: &mut [u8], at: &mut usize, bytes: &[u8]) {
     byte(out, at, b'\n');
 }
 
-// A number and a buffer.
-pub fn number_buf(out: &mut [u8], at: &mut usize, n: u8, buf: &[u8]) {
-    number_then_buf(out, at, n, buf);
+pub fn number_buf(out: &mut [u8], at: &mut usize, n: u8, missing: usize, buf: &[u8]) {
+    number_then_buf(out, at, n, missing, buf);
     byte(out, at, b'\n');
 }
 
-// A number, a buffer, and the plaintext or the tag.
-pub fn number_buf_more(out: &mut [u8], at: &mut usize, n: u8, buf: &[u8], more: &[u8]) {
-    number_then_buf(out, at, n, buf);
+// The same with the plaintext or the tag.
+pub fn number_buf_more(
+    out: &mut [u8],
+    at: &mut usize,
+    n: u8,
+    missing: usize,
+    buf: &[u8],
+    more: &[u8],
+) {
+    number_then_buf(out, at, n, missing, buf);
     last(out, at, more);
 }
 
-pub fn number_buf_tag(out: &mut [u8], at: &mut usize, n: u8, buf: &[u8], tag: &[u8; 16]) {
-    number_buf_more(out, at, n, buf, tag);
+pub fn number_buf_tag(
+    out: &mut [u8],
+    at: &mut usize,
+    n: u8,
+    missing: usize,
+    buf: &[u8],
+    tag: &[u8; 16],
+) {
+    number_buf_more(out, at, n, missing, buf, tag);
 }

@@ -250,7 +250,7 @@ fn squeeze(s: Session, how: SqueezeCall, words: &[u8], out: &mut [u8], at: &mut 
     }
     let buf = &mut store[0..n];
     let r = squeezed(s, how, buf);
-    out::number_buf(out, at, r.number, buf);
+    out::number_buf(out, at, r.number, r.missing, buf);
     r.session
 }
 

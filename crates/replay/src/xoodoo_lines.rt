@@ -55,7 +55,7 @@ fn extract(x: Xoodoo, words: &[u8], out: &mut [u8], at: &mut usize) {
     }
     let part = &mut buf[0..n];
     let number = x.extract_bytes(part);
-    out::number_buf(out, at, number, part);
+    out::number_buf(out, at, number, 0, part);
 }
 
 // So many rounds, there or back.

@@ -7,14 +7,14 @@ use Prim.Native.Nat.{ℕ, zero, suc, _+_, _-_, _<_}
 use native.Mathlib.Omega.{arith}
 use lib.Dec.{ltb, eqb}
 use lib.ListN.{length}
-use borrow.Author.Tests.{ltb-true, ltb-false, eq-eqb}
+use borrow.Author.Tests.{ltb-true, ltb-false, eq-eqb, ne-eqb}
 use Rattle.xoodyak.specs.declared.cyclist.Mode.{Mode}
 use Rattle.xoodyak.specs.declared.cyclist.Mode.the-variants.{Hash, Keyed}
 use Rattle.xoodyak.specs.declared.tag.Tag.{Tag}
 use Rattle.xoodyak.specs.declared.Session.{Session}
 use Rattle.xoodyak.specs.Cyclist.{absorbRate, given}
-use Rattle.xoodyak.specs.Numbers.{when, first, modeNumber, keyNumber, roomNumber, tailNumber, rateNumber}
-use Rattle.xoodyak.specs.Calls.{Outcome, refused, settle, session, mode, both, opened, tagOut, decryptEnd, verifyOf, absorbOf, absorbMoreOf, squeezeOf, squeezeMoreOf, keyOf, newOf, ratchetOf, encryptOf, decryptOf, encryptInPlaceOf, decryptInPlaceOf, sealDetachedOf, sealOf, sealInPlaceDetachedOf, sealInPlaceOf, openDetachedOf, openOf, openInPlaceDetachedOf, openInPlaceOf}
+use Rattle.xoodyak.specs.Numbers.{when, first, modeNumber, keyNumber, roomNumber, missing, tailNumber, rateNumber}
+use Rattle.xoodyak.specs.Calls.{Outcome, refused, settle, session, mode, both, sameBytes, verdict, opened, tagEnd, tagOut, decryptEnd, verifyOf, absorbOf, absorbMoreOf, squeezeOf, squeezeMoreOf, keyOf, newOf, ratchetOf, encryptOf, decryptOf, encryptInPlaceOf, decryptInPlaceOf, sealDetachedOf, sealOf, sealInPlaceDetachedOf, sealInPlaceOf, openDetachedOf, openOf, openInPlaceDetachedOf, openInPlaceOf}
 use Rattle.theorems.proofs.Crypt.{allBut16, last16, first-zero, both-true, Decides, tag-decides, opened-decides}
 
 -- ---- the table
@@ -31,11 +31,16 @@ From before n (r ∷ rows) = ((n ≡ r .0) ↔ (before × r .1)) × From (before
 abbrev pub Exactly : ℕ → List Row → Type 0
 Exactly n rows = From (Unit {0}) n rows
 
--- a call with outcome x on session s and buffer o: its number is by the rows; after 1, 2, 3, 5 session and buffer hold what they held
--- and any tag is zeros
-pub record Answers (x : Outcome) (s : Session) (o : List ℕ) (rows : List Row) : Type 0 where
+-- with 3 the answer counts the bytes that the output lacks, and any other counts none
+abbrev pub Counts : ℕ → ℕ → ℕ → Type 0
+Counts n count lacks = (n ≡ 3 → count ≡ lacks) × (n ≢ 3 → count ≡ 0)
+
+-- a call with outcome x on session s and buffer o, which lacks so many bytes: its number is by the rows, its count exact; after all but 0
+-- and 4 session and buffer hold what they held and any tag is zeros
+pub record Answers (x : Outcome) (s : Session) (o : List ℕ) (lacks : ℕ) (rows : List Row) : Type 0 where
   pub number : Exactly (x .number) rows
-  pub refusal : x .number ≢ 0 → x .number ≢ 4 → x ≡ refused s (x .number) o
+  pub count : Counts (x .number) (x .missing) lacks
+  pub refusal : x .number ≢ 0 → x .number ≢ 4 → x ≡ refused s (x .number) (x .missing) o
 
 -- a session that isn't in Hash is Keyed
 pub keyed-iff : (m : Mode) → (m ≢ Hash) ↔ (m ≡ Keyed)
@@ -121,9 +126,9 @@ then {a} {b} (here {r = r} {rows = rows} p f) g h =
     here p (first-some a b (λ z. apart-zero (r .0) rows (distinct-head r rows h) (sym f ∙ z)) ∙ f)
 then (later {r = r} {rows = rows} p f) g h = later p (then f g (distinct-tail r rows h))
 
-settle-number : (n : ℕ) (s : Session) (o : List ℕ) (x : Outcome) → settle n s o x .number ≡ first n (x .number)
-settle-number zero s o x = refl
-settle-number (suc n) s o x = refl
+settle-number : (n k : ℕ) (s : Session) (o : List ℕ) (x : Outcome) → settle n k s o x .number ≡ first n (x .number)
+settle-number zero k s o x = refl
+settle-number (suc n) k s o x = refl
 
 -- ---- each number's condition
 given-row : {n k : ℕ} {P : Type 0} → P → n ≡ k → First n ((k, P) ∷ [])
@@ -143,17 +148,21 @@ mode-row : (m : Mode) → First (modeNumber m) ((1, m ≡ Hash) ∷ [])
 mode-row Hash = given-row refl refl
 mode-row Keyed = no-row (keyed-iff Keyed .1 refl) refl
 
-key-row : (key id nonce : ℕ) → First (keyNumber key id nonce) ((2, 44 < key + 1 + id + nonce) ∷ [])
+-- the key alone exceeds 43; the key fits, but key and key id together exceed 43; only the nonce breaks it
+abbrev pub keyRows : ℕ → ℕ → ℕ → List Row
+keyRows key id nonce = (2, 43 < key) ∷ (8, 43 < key + id) ∷ (9, 44 < key + 1 + id + nonce) ∷ []
+
+key-rows : (key id nonce : ℕ) → First (keyNumber key id nonce) (keyRows key id nonce)
 unfolding keyNumber
-key-row key id nonce = less-row 44 (key + 1 + id + nonce) 2
+key-rows key id nonce = then (less-row 43 key 2) (then (less-row 43 (key + id) 8) (less-row 44 (key + 1 + id + nonce) 9) refl) refl
 
 room-row : (room result : ℕ) → First (roomNumber room result) ((3, room < result) ∷ [])
 unfolding roomNumber
 room-row room result = less-row room result 3
 
-tail-row : (size : ℕ) → First (tailNumber size) ((3, size < 16) ∷ [])
+tail-row : (size : ℕ) → First (tailNumber size) ((10, size < 16) ∷ [])
 unfolding tailNumber
-tail-row size = less-row size 16 3
+tail-row size = less-row size 16 10
 
 rate-row : (m : Mode) (r : ℕ) → First (rateNumber m r) ((5, (r ≡ 0) ⊎ (absorbRate m < r)) ∷ [])
 unfolding rateNumber
@@ -162,161 +171,183 @@ rate-row m (suc r) =
     when-row (ltb (absorbRate m) (suc r)) 5 _ (λ e. inr (ltb-true (absorbRate m) (suc r) e))
     (λ e. ⊎-elim (λ z. omega arith) (λ h. omega (arith, ltb-false (absorbRate m) (suc r) e)))
 
--- refused for either of two reasons with one number
-either : {a b k : ℕ} {P Q : Type 0} → First a ((suc k, P) ∷ []) → First b ((suc k, Q) ∷ []) → First (first a b) ((suc k, P ⊎ Q) ∷ [])
-either {a} {b} (here p f) g = here (inl p) (first-some a b (λ z. omega arith) ∙ f)
-either {b = b} (later p (none f)) (here q g) = here (inr q) (ap (λ n. first n b) f ∙ g)
-either {b = b} (later p (none f)) (later q (none g)) = later (⊎-elim p q) (none (ap (λ n. first n b) f ∙ g))
-
 decides-row : (n : ℕ) (P : Type 0) → Decides n P → First n ((4, ¬ P) ∷ [])
 decides-row n P (inl e, d, f) = no-row (λ g. g (d .0 e)) e
 decides-row n P (inr e, d, f) = given-row (f .0 e) e
 
 settle-refusal :
-    (n : ℕ) (s : Session) (o : List ℕ) (x : Outcome) → (x .number ≡ 0) ⊎ (x .number ≡ 4)
-    → settle n s o x .number ≢ 0 → settle n s o x .number ≢ 4 → settle n s o x ≡ refused s (settle n s o x .number) o
-settle-refusal zero s o x (inl e) p q = absurd (p e)
-settle-refusal zero s o x (inr e) p q = absurd (q e)
-settle-refusal (suc n) s o x e p q = refl
+    (n k : ℕ) (s : Session) (o : List ℕ) (x : Outcome) → (x .number ≡ 0) ⊎ (x .number ≡ 4)
+    → settle n k s o x .number ≢ 0 → settle n k s o x .number ≢ 4 → settle n k s o x ≡ refused s (settle n k s o x .number) (settle n k s o x .missing) o
+settle-refusal zero k s o x (inl e) p q = absurd (p e)
+settle-refusal zero k s o x (inr e) p q = absurd (q e)
+settle-refusal (suc n) k s o x e p q = refl
+
+-- ---- the count
+-- a call that writes into no output
+no-count : (n : ℕ) → Counts n 0 0
+no-count n = (λ _. refl, λ _. refl)
+
+room-count : (n room result : ℕ) → Counts n (missing n room result) (result - room)
+unfolding missing
+room-count n room result = (λ e. rw e, λ h. rw (ne-eqb n 3 h))
+
+settle-count :
+    (n k lacks : ℕ) (s : Session) (o : List ℕ) (x : Outcome) → Counts n k lacks → (x .number ≡ 0) ⊎ (x .number ≡ 4) → x .missing ≡ 0
+    → Counts (settle n k s o x .number) (settle n k s o x .missing) lacks
+settle-count zero k lacks s o x c (inl e) z = (λ h. absurd (omega (arith, sym e ∙ h)), λ _. z)
+settle-count zero k lacks s o x c (inr e) z = (λ h. absurd (omega (arith, sym e ∙ h)), λ _. z)
+settle-count (suc n) k lacks s o x c e z = c
+
+opened-count : (s : Session) (t c good bad : List ℕ) → opened s t c good bad .missing ≡ 0
+unfolding opened
+opened-count s t c good bad = go (sameBytes (tagOut (decryptEnd s c)) t)
+  where
+    go : (b : Bool) → verdict b (tagEnd (decryptEnd s c)) good bad .missing ≡ 0
+    go true = refl
+    go false = refl
 
 -- a call that is refused by the rows alone
 plain :
-    (n : ℕ) (s : Session) (o : List ℕ) (x : Outcome) {rows : List Row} → First n rows → x .number ≡ 0 → distinct rows ≡ true
-    → Answers (settle n s o x) s o rows
-plain n s o x f e h = record {
-  number = rw (settle-number n s o x, e, first-zero n) (table f h);
-  refusal = settle-refusal n s o x (inl e);
+    (n k : ℕ) {lacks : ℕ} (s : Session) (o : List ℕ) (x : Outcome) {rows : List Row} → First n rows → Counts n k lacks → x .number ≡ 0
+    → x .missing ≡ 0 → distinct rows ≡ true
+    → Answers (settle n k s o x) s o lacks rows
+plain n k s o x f c e z h = record {
+  number = rw (settle-number n k s o x, e, first-zero n) (table f h);
+  count = settle-count n k _ s o x c (inl e) z;
+  refusal = settle-refusal n k s o x (inl e);
 }
 
 -- an opening call: the tag is looked at last
 opening :
-    (n : ℕ) (s : Session) (o t c good bad : List ℕ) {rows : List Row} → First n rows → distinct rows ≡ true
+    (n k : ℕ) {lacks : ℕ} (s : Session) (o t c good bad : List ℕ) {rows : List Row} → First n rows → Counts n k lacks → distinct rows ≡ true
     → distinct (rows ++ ((4, tagOut (decryptEnd s c) ≢ t) ∷ [])) ≡ true
-    → Answers (settle n s o (opened s t c good bad)) s o (rows ++ ((4, tagOut (decryptEnd s c) ≢ t) ∷ []))
-opening n s o t c good bad f h k = record {
-  number = rw (settle-number n s o (opened s t c good bad)) (table (then f (decides-row _ _ (opened-decides s t c good bad)) h) k);
-  refusal = settle-refusal n s o (opened s t c good bad) (opened-decides s t c good bad .0);
+    → Answers (settle n k s o (opened s t c good bad)) s o lacks (rows ++ ((4, tagOut (decryptEnd s c) ≢ t) ∷ []))
+opening n k s o t c good bad f counts h g = record {
+  number = rw (settle-number n k s o (opened s t c good bad)) (table (then f (decides-row _ _ (opened-decides s t c good bad)) h) g);
+  count = settle-count n k _ s o (opened s t c good bad) counts (opened-decides s t c good bad .0) (opened-count s t c good bad);
+  refusal = settle-refusal n k s o (opened s t c good bad) (opened-decides s t c good bad .0);
 }
 
 -- ---- the table of each call
 -- `absorb` is never refused
-pub absorb-taken : (s : Session) (x : List ℕ) → absorbOf s x .number ≡ 0
+pub absorb-taken : (s : Session) (x : List ℕ) → (absorbOf s x .number ≡ 0) × (absorbOf s x .missing ≡ 0)
 unfolding absorbOf
-absorb-taken s x = refl
+absorb-taken s x = (refl, refl)
 
 -- nor are `squeeze` and `squeeze_key`
-pub squeeze-taken : (cu : ℕ) (s : Session) (o : List ℕ) → squeezeOf cu s o .number ≡ 0
+pub squeeze-taken : (cu : ℕ) (s : Session) (o : List ℕ) → (squeezeOf cu s o .number ≡ 0) × (squeezeOf cu s o .missing ≡ 0)
 unfolding squeezeOf
-squeeze-taken cu s o = refl
+squeeze-taken cu s o = (refl, refl)
 
 -- nor is `squeeze_more`
-pub squeeze-more-taken : (s : Session) (o : List ℕ) → squeezeMoreOf s o .number ≡ 0
+pub squeeze-more-taken : (s : Session) (o : List ℕ) → (squeezeMoreOf s o .number ≡ 0) × (squeezeMoreOf s o .missing ≡ 0)
 unfolding squeezeMoreOf
-squeeze-more-taken s o = refl
+squeeze-more-taken s o = (refl, refl)
 
 -- `absorb_more`: 5 where the rate is 0 or above the session's absorb rate, even on empty input
-pub absorb-more-answers : (s : Session) (x : List ℕ) (r : ℕ) → Answers (absorbMoreOf s x r) s [] ((5, (r ≡ 0) ⊎ (absorbRate (mode s) < r)) ∷ [])
+pub absorb-more-answers : (s : Session) (x : List ℕ) (r : ℕ) → Answers (absorbMoreOf s x r) s [] 0 ((5, (r ≡ 0) ⊎ (absorbRate (mode s) < r)) ∷ [])
 unfolding absorbMoreOf
-absorb-more-answers s x r = plain _ s [] _ (rate-row (mode s) r) refl refl
+absorb-more-answers s x r = plain _ _ s [] _ (rate-row (mode s) r) (no-count _) refl refl refl
 
 module _ (key : List ℕ) (hasId : Bool) (id : List ℕ) (hasNonce : Bool) (nonce : List ℕ) (hasCounter : Bool) (counter : List ℕ) where
-  -- `absorb_key_and_nonce`: 1 in Hash; 2 where key + 1 + key id + nonce exceeds 44
+  -- `absorb_key_and_nonce`: 1 in Hash; 2, 8 or 9 by the lengths of key, key id and nonce
   pub key-answers :
       (s : Session)
-      → Answers (keyOf s key hasId id hasNonce nonce hasCounter counter) s []
-      ((1, mode s ≡ Hash) ∷ (2, 44 < length key + 1 + length (given hasId id) + length (given hasNonce nonce)) ∷ [])
+      → Answers (keyOf s key hasId id hasNonce nonce hasCounter counter) s [] 0
+      ((1, mode s ≡ Hash) ∷ keyRows (length key) (length (given hasId id)) (length (given hasNonce nonce)))
   unfolding keyOf
-  key-answers s = plain _ s [] _ (then (mode-row (mode s)) (key-row (length key) _ _) refl) refl refl
+  key-answers s = plain _ _ s [] _ (then (mode-row (mode s)) (key-rows (length key) _ _) refl) (no-count _) refl refl refl
 
-  -- `new`: 2 likewise; refused, it hands back a fresh Hash session
+  -- `new`: 2, 8 or 9 likewise; refused, it hands back a fresh Hash session
   pub new-answers :
-      Answers (newOf key hasNonce nonce hasId id hasCounter counter) (session Hash) []
-      ((2, 44 < length key + 1 + length (given hasId id) + length (given hasNonce nonce)) ∷ [])
+      Answers (newOf key hasNonce nonce hasId id hasCounter counter) (session Hash) [] 0
+      (keyRows (length key) (length (given hasId id)) (length (given hasNonce nonce)))
   unfolding newOf
-  new-answers = plain _ (session Hash) [] _ (key-row (length key) _ _) refl refl
+  new-answers = plain _ _ (session Hash) [] _ (key-rows (length key) _ _) (no-count _) refl refl refl
 
 module _ (s : Session) where
   -- `ratchet`: 1 in Hash
-  pub ratchet-answers : Answers (ratchetOf s) s [] ((1, mode s ≡ Hash) ∷ [])
+  pub ratchet-answers : Answers (ratchetOf s) s [] 0 ((1, mode s ≡ Hash) ∷ [])
   unfolding ratchetOf
-  ratchet-answers = plain _ s [] _ (mode-row (mode s)) refl refl
+  ratchet-answers = plain _ _ s [] _ (mode-row (mode s)) (no-count _) refl refl refl
 
   -- `encrypt`: 1 in Hash; 3 where the output is shorter than the message
-  pub encrypt-answers : (o m : List ℕ) → Answers (encryptOf s o m) s o ((1, mode s ≡ Hash) ∷ (3, length o < length m) ∷ [])
+  pub encrypt-answers : (o m : List ℕ) → Answers (encryptOf s o m) s o (length m - length o) ((1, mode s ≡ Hash) ∷ (3, length o < length m) ∷ [])
   unfolding encryptOf
-  encrypt-answers o m = plain _ s o _ (then (mode-row (mode s)) (room-row (length o) (length m)) refl) refl refl
+  encrypt-answers o m = plain _ _ s o _ (then (mode-row (mode s)) (room-row (length o) (length m)) refl) (room-count _ (length o) (length m)) refl refl refl
 
   -- `decrypt`: the same
-  pub decrypt-answers : (o c : List ℕ) → Answers (decryptOf s o c) s o ((1, mode s ≡ Hash) ∷ (3, length o < length c) ∷ [])
+  pub decrypt-answers : (o c : List ℕ) → Answers (decryptOf s o c) s o (length c - length o) ((1, mode s ≡ Hash) ∷ (3, length o < length c) ∷ [])
   unfolding decryptOf
-  decrypt-answers o c = plain _ s o _ (then (mode-row (mode s)) (room-row (length o) (length c)) refl) refl refl
+  decrypt-answers o c = plain _ _ s o _ (then (mode-row (mode s)) (room-row (length o) (length c)) refl) (room-count _ (length o) (length c)) refl refl refl
 
   -- `encrypt_in_place`: 1 in Hash
-  pub encrypt-in-place-answers : (b : List ℕ) → Answers (encryptInPlaceOf s b) s b ((1, mode s ≡ Hash) ∷ [])
+  pub encrypt-in-place-answers : (b : List ℕ) → Answers (encryptInPlaceOf s b) s b 0 ((1, mode s ≡ Hash) ∷ [])
   unfolding encryptInPlaceOf
-  encrypt-in-place-answers b = plain _ s b _ (mode-row (mode s)) refl refl
+  encrypt-in-place-answers b = plain _ _ s b _ (mode-row (mode s)) (no-count _) refl refl refl
 
   -- `decrypt_in_place`: the same
-  pub decrypt-in-place-answers : (b : List ℕ) → Answers (decryptInPlaceOf s b) s b ((1, mode s ≡ Hash) ∷ [])
+  pub decrypt-in-place-answers : (b : List ℕ) → Answers (decryptInPlaceOf s b) s b 0 ((1, mode s ≡ Hash) ∷ [])
   unfolding decryptInPlaceOf
-  decrypt-in-place-answers b = plain _ s b _ (mode-row (mode s)) refl refl
+  decrypt-in-place-answers b = plain _ _ s b _ (mode-row (mode s)) (no-count _) refl refl refl
 
   -- `aead_encrypt_detached`: 1 in Hash; 3 where the output is shorter than the message
-  pub seal-detached-answers : (o m : List ℕ) → Answers (sealDetachedOf s o m) s o ((1, mode s ≡ Hash) ∷ (3, length o < length m) ∷ [])
+  pub seal-detached-answers : (o m : List ℕ) → Answers (sealDetachedOf s o m) s o (length m - length o) ((1, mode s ≡ Hash) ∷ (3, length o < length m) ∷ [])
   unfolding sealDetachedOf
-  seal-detached-answers o m = plain _ s o _ (then (mode-row (mode s)) (room-row (length o) (length m)) refl) refl refl
+  seal-detached-answers o m = plain _ _ s o _ (then (mode-row (mode s)) (room-row (length o) (length m)) refl) (room-count _ (length o) (length m)) refl refl refl
 
   -- `aead_encrypt`: 1 in Hash; 3 where the output is shorter than message and tag
-  pub seal-answers : (o m : List ℕ) → Answers (sealOf s o m) s o ((1, mode s ≡ Hash) ∷ (3, length o < length m + 16) ∷ [])
+  pub seal-answers : (o m : List ℕ) → Answers (sealOf s o m) s o (length m + 16 - length o) ((1, mode s ≡ Hash) ∷ (3, length o < length m + 16) ∷ [])
   unfolding sealOf
-  seal-answers o m = plain _ s o _ (then (mode-row (mode s)) (room-row (length o) (length m + 16)) refl) refl refl
+  seal-answers o m = plain _ _ s o _ (then (mode-row (mode s)) (room-row (length o) (length m + 16)) refl) (room-count _ (length o) (length m + 16)) refl refl refl
 
   -- `aead_encrypt_in_place_detached`: 1 in Hash
-  pub seal-in-place-detached-answers : (b : List ℕ) → Answers (sealInPlaceDetachedOf s b) s b ((1, mode s ≡ Hash) ∷ [])
+  pub seal-in-place-detached-answers : (b : List ℕ) → Answers (sealInPlaceDetachedOf s b) s b 0 ((1, mode s ≡ Hash) ∷ [])
   unfolding sealInPlaceDetachedOf
-  seal-in-place-detached-answers b = plain _ s b _ (mode-row (mode s)) refl refl
+  seal-in-place-detached-answers b = plain _ _ s b _ (mode-row (mode s)) (no-count _) refl refl refl
 
-  -- `aead_encrypt_in_place`: 1 in Hash; 3 where the buffer is under 16
-  pub seal-in-place-answers : (b : List ℕ) → Answers (sealInPlaceOf s b) s b ((1, mode s ≡ Hash) ∷ (3, length b < 16) ∷ [])
+  -- `aead_encrypt_in_place`: 1 in Hash; 10 where the buffer is under 16
+  pub seal-in-place-answers : (b : List ℕ) → Answers (sealInPlaceOf s b) s b 0 ((1, mode s ≡ Hash) ∷ (10, length b < 16) ∷ [])
   unfolding sealInPlaceOf
-  seal-in-place-answers b = plain _ s b _ (then (mode-row (mode s)) (tail-row (length b)) refl) refl refl
+  seal-in-place-answers b = plain _ _ s b _ (then (mode-row (mode s)) (tail-row (length b)) refl) (no-count _) refl refl refl
 
   -- `aead_decrypt_detached`: 1 in Hash; 3 where the output is shorter than the ciphertext; 4 where the tag differs
   pub open-detached-answers :
       (o : List ℕ) (t : Tag) (c : List ℕ)
-      → Answers (openDetachedOf s o t c) s o
+      → Answers (openDetachedOf s o t c) s o (length c - length o)
       ((1, mode s ≡ Hash) ∷ (3, length o < length c) ∷ (4, tagOut (decryptEnd s c) ≢ t .bytes) ∷ [])
   unfolding openDetachedOf
   open-detached-answers o t c =
-      opening _ s o (t .bytes) c _ _ (then (mode-row (mode s)) (room-row (length o) (length c)) refl) refl refl
+      opening _ _ s o (t .bytes) c _ _ (then (mode-row (mode s)) (room-row (length o) (length c)) refl) (room-count _ (length o) (length c)) refl refl
 
-  -- `aead_decrypt`: 1 in Hash; 3 where the input is under 16, or the output shorter than its result; 4 where the tag differs
+  -- `aead_decrypt`: 1 in Hash; 10 where the input is under 16; 3 where the output is shorter than its result; 4 where the tag differs
   pub open-answers :
       (o b : List ℕ)
-      → Answers (openOf s o b) s o
+      → Answers (openOf s o b) s o (length b - 16 - length o)
       ((1, mode s ≡ Hash)
-      ∷ (3, (length b < 16) ⊎ (length o < length b - 16))
+      ∷ (10, length b < 16)
+      ∷ (3, length o < length b - 16)
       ∷ (4, tagOut (decryptEnd s (allBut16 b)) ≢ last16 b)
       ∷ [])
   unfolding openOf
   open-answers o b =
-      opening _ s o _ _ _ _ (then (mode-row (mode s)) (either (tail-row (length b)) (room-row (length o) (length b - 16))) refl) refl refl
+      opening _ _ s o _ _ _ _ (then (then (mode-row (mode s)) (tail-row (length b)) refl) (room-row (length o) (length b - 16)) refl) (room-count _ (length o) (length b - 16)) refl refl
 
   -- `aead_decrypt_in_place_detached`: 1 in Hash; 4 where the tag differs
   pub open-in-place-detached-answers :
       (b : List ℕ) (t : Tag)
-      → Answers (openInPlaceDetachedOf s b t) s b ((1, mode s ≡ Hash) ∷ (4, tagOut (decryptEnd s b) ≢ t .bytes) ∷ [])
+      → Answers (openInPlaceDetachedOf s b t) s b 0 ((1, mode s ≡ Hash) ∷ (4, tagOut (decryptEnd s b) ≢ t .bytes) ∷ [])
   unfolding openInPlaceDetachedOf
-  open-in-place-detached-answers b t = opening _ s b (t .bytes) b _ _ (mode-row (mode s)) refl refl
+  open-in-place-detached-answers b t = opening _ _ s b (t .bytes) b _ _ (mode-row (mode s)) (no-count _) refl refl
 
-  -- `aead_decrypt_in_place`: 1 in Hash; 3 where the buffer is under 16; 4 where the tag differs
+  -- `aead_decrypt_in_place`: 1 in Hash; 10 where the buffer is under 16; 4 where the tag differs
   pub open-in-place-answers :
       (b : List ℕ)
-      → Answers (openInPlaceOf s b) s b
-      ((1, mode s ≡ Hash) ∷ (3, length b < 16) ∷ (4, tagOut (decryptEnd s (allBut16 b)) ≢ last16 b) ∷ [])
+      → Answers (openInPlaceOf s b) s b 0
+      ((1, mode s ≡ Hash) ∷ (10, length b < 16) ∷ (4, tagOut (decryptEnd s (allBut16 b)) ≢ last16 b) ∷ [])
   unfolding openInPlaceOf
   open-in-place-answers b =
-      opening _ s b _ _ _ _ (then (mode-row (mode s)) (tail-row (length b)) refl) refl refl
+      opening _ _ s b _ _ _ _ (then (mode-row (mode s)) (tail-row (length b)) refl) (no-count _) refl refl
 
 -- `Tag::verify` answers 4 where the bytes differ, and has no session
 pub verify-numbers : (t : Tag) (b : List ℕ) → Exactly (verifyOf t b) ((4, t .bytes ≢ b) ∷ [])

@@ -3,27 +3,28 @@
 use mathlib.Core.Path.{_≡_, refl, sym, ap, ap₂, _∙_}
 use mathlib.Core.Bool.{Bool, true, false}
 use mathlib.Core.List.{List, _++_, append-nil}
-use Prim.Native.Nat.{ℕ, zero, suc, _+_, _-_, _<_, _≤_}
+use mathlib.Core.Logic.{_≢_}
+use Prim.Native.Nat.{ℕ, zero, suc, _+_, _-_, _≤_}
 use native.Mathlib.Nat.{le-refl}
 use native.Mathlib.Omega.{arith}
-use lib.Dec.{ltb, lit<}
-use lib.ListN.{length, replicate, take, drop, length-append, length-take, take-append-drop, drop-of-length-le}
+use lib.Dec.{eqb, ltb}
+use lib.ListN.{length, replicate, take, drop, length-append, length-take, take-append-drop}
 use lib.Seq.{take-at, drop-at, take-add, length-take-le, drop-length}
-use borrow.Author.Tests.{ltb-true, ltb-false, lt-ltb, le-ltb}
+use borrow.Author.Tests.{le-ltb}
 use Rattle.xoodyak.specs.declared.cyclist.Mode.{Mode}
 use Rattle.xoodyak.specs.declared.cyclist.Mode.the-variants.{Hash, Keyed}
 use Rattle.xoodyak.specs.declared.cyclist.Duplex.{Duplex}
 use Rattle.xoodyak.specs.declared.tag.Tag.{Tag}
 use Rattle.xoodyak.specs.declared.Session.{Session}
 use Rattle.xoodyak.specs.Cyclist.{upBytes, up, squeezeEnd, squeezeOut}
-use Rattle.xoodyak.specs.Numbers.{when, first, modeNumber, roomNumber, tailNumber}
+use Rattle.xoodyak.specs.Numbers.{when, first, modeNumber, roomNumber, missing, tailNumber}
 use Rattle.xoodyak.specs.Calls.{Outcome, noTag, taken, refused, settle, mode, squeezeOf, encryptEnd, encryptOut, decryptEnd, decryptOut, encryptOf, decryptOf, encryptInPlaceOf, decryptInPlaceOf, tagEnd, tagOut, sameBytes, verdict, opened, sealDetachedOf, sealOf, sealInPlaceDetachedOf, sealInPlaceOf, openDetachedOf, openOf, openInPlaceDetachedOf, openInPlaceOf}
 use Rattle.theorems.proofs.Crypt.{allBut16, last16, first-zero, same-bytes, Decides, opened-decides, tag-length, encrypt-length, decrypt-encrypt, decrypt-encrypt-end}
 
 -- ---- calls that meet no refusal
-module _ (s : Session) (o : List ℕ) (x : Outcome) where
-  no-refusal : {n : ℕ} → n ≡ 0 → settle n s o x ≡ x
-  no-refusal e = ap (λ n. settle n s o x) e
+module _ (k : ℕ) (s : Session) (o : List ℕ) (x : Outcome) where
+  no-refusal : {n : ℕ} → n ≡ 0 → settle n k s o x ≡ x
+  no-refusal e = ap (λ n. settle n k s o x) e
 
 none-of : {a b : ℕ} → a ≡ 0 → b ≡ 0 → first a b ≡ 0
 none-of p q = ap₂ first p q
@@ -34,7 +35,7 @@ fits room result h = ap (λ t. when t 3) (le-ltb room result h)
 
 holds-tag : (size : ℕ) → 16 ≤ size → tailNumber size ≡ 0
 unfolding tailNumber
-holds-tag size h = ap (λ t. when t 3) (le-ltb size 16 h)
+holds-tag size h = ap (λ t. when t 10) (le-ltb size 16 h)
 
 -- what a sealing call made of the message m from session s: ciphertext c, tag t, and its end session e
 pub record Seals (s : Session) (m c t : List ℕ) (e : Session) : Type 0 where
@@ -60,11 +61,11 @@ opened-seal {s} {m} {c} {t} {e} good bad x =
 -- ---- the forms agree, accepted or refused, in every session
 -- an outcome with t after its bytes
 abbrev pub followedBy : Outcome → List ℕ → Outcome
-followedBy x t = record { session = x .session; number = x .number; tag = x .tag; bytes = x .bytes ++ t }
+followedBy x t = record { session = x .session; number = x .number; missing = x .missing; tag = x .tag; bytes = x .bytes ++ t }
 
-settle-followed : (n : ℕ) (s : Session) (o : List ℕ) (x : Outcome) (t : List ℕ) → settle n s (o ++ t) (followedBy x t) ≡ followedBy (settle n s o x) t
-settle-followed zero s o x t = refl
-settle-followed (suc n) s o x t = refl
+settle-followed : (n k : ℕ) (s : Session) (o : List ℕ) (x : Outcome) (t : List ℕ) → settle n k s (o ++ t) (followedBy x t) ≡ followedBy (settle n k s o x) t
+settle-followed zero k s o x t = refl
+settle-followed (suc n) k s o x t = refl
 
 verdict-followed : (b : Bool) (s : Session) (good bad t : List ℕ) → verdict b s (good ++ t) (bad ++ t) ≡ followedBy (verdict b s good bad) t
 verdict-followed true s good bad t = refl
@@ -77,17 +78,14 @@ opened-followed s t c good bad u = verdict-followed (sameBytes (tagOut (decryptE
 past-whole : (x b : List ℕ) → x ++ drop (length b) b ≡ x
 past-whole x b = rw (drop-length, append-nil)
 
-same-test : (n j k : ℕ) → (n < j → n < k) → (j ≤ n → k ≤ n) → ltb n j ≡ ltb n k
-same-test n j k p q = go (ltb n j) refl
-  where
-    go : (t : Bool) → ltb n j ≡ t → ltb n j ≡ ltb n k
-    go true e = e ∙ sym (lt-ltb n k (p (ltb-true n j e)))
-    go false e = e ∙ sym (le-ltb n k (q (ltb-false n j e)))
+when-none : (b : Bool) → when b 0 ≡ 0
+when-none true = refl
+when-none false = refl
 
-tail-is-room : (b : List ℕ) → tailNumber (length b) ≡ roomNumber (length b) (length (allBut16 b) + 16)
-unfolding tailNumber roomNumber
-tail-is-room b =
-    ap (λ t. when t 3) (same-test (length b) 16 _ (λ h. rw length-take (omega arith)) (λ h. rw length-take (omega arith)))
+-- an output that is long enough lacks nothing
+none-missing : (n room result : ℕ) → result ≤ room → missing n room result ≡ 0
+unfolding missing
+none-missing n room result h = let z : result - room ≡ 0 = omega arith in rw z (when-none (eqb n 3))
 
 module _ (s : Session) (b : List ℕ) where
   own-room : first (modeNumber (mode s)) (roomNumber (length b) (length b)) ≡ modeNumber (mode s)
@@ -96,34 +94,34 @@ module _ (s : Session) (b : List ℕ) where
   -- in place is by copy onto the input itself
   pub encrypt-in-place-agrees : encryptInPlaceOf s b ≡ encryptOf s b b
   unfolding encryptInPlaceOf encryptOf
-  encrypt-in-place-agrees = rw (own-room, past-whole)
+  encrypt-in-place-agrees = rw (own-room, none-missing _ _ _ (le-refl (length b)), past-whole)
 
   pub decrypt-in-place-agrees : decryptInPlaceOf s b ≡ decryptOf s b b
   unfolding decryptInPlaceOf decryptOf
-  decrypt-in-place-agrees = rw (own-room, past-whole)
+  decrypt-in-place-agrees = rw (own-room, none-missing _ _ _ (le-refl (length b)), past-whole)
 
   pub seal-in-place-detached-agrees : sealInPlaceDetachedOf s b ≡ sealDetachedOf s b b
   unfolding sealInPlaceDetachedOf sealDetachedOf
-  seal-in-place-detached-agrees = rw (own-room, past-whole)
+  seal-in-place-detached-agrees = rw (own-room, none-missing _ _ _ (le-refl (length b)), past-whole)
 
   pub open-in-place-detached-agrees : (t : Tag) → openInPlaceDetachedOf s b t ≡ openDetachedOf s b t b
   unfolding openInPlaceDetachedOf openDetachedOf
-  open-in-place-detached-agrees t = rw (own-room, past-whole)
+  open-in-place-detached-agrees t = rw (own-room, none-missing _ _ _ (le-refl (length b)), past-whole)
 
-  -- combined in place, the message is all but the last 16 bytes
-  pub seal-in-place-agrees : sealInPlaceOf s b ≡ sealOf s b (allBut16 b)
-  unfolding sealInPlaceOf sealOf
-  seal-in-place-agrees =
-      let h : length b ≤ length (allBut16 b) + 16 = rw length-take (omega arith) in
-      rw (tail-is-room b, drop-of-length-le b h, append-nil)
-
-  -- the combined open is the detached one of the last 16 bytes and those before them
   module _ (h : 16 ≤ length b) where
+    -- combined in place, the message is all but the last 16 bytes
+    pub seal-in-place-agrees : sealInPlaceOf s b ≡ sealOf s b (allBut16 b)
+    unfolding sealInPlaceOf sealOf
+    seal-in-place-agrees =
+        let l : length (allBut16 b) + 16 ≡ length b = rw length-take (omega arith) in
+        rw (holds-tag (length b) h, l, fits (length b) (length b) (le-refl _), none-missing _ _ _ (le-refl (length b)), drop-length, append-nil)
+
+    -- the combined open is the detached one of the last 16 bytes and those before them
     pub open-agrees : (o : List ℕ) → openOf s o b ≡ openDetachedOf s o (record { bytes = last16 b }) (allBut16 b)
     unfolding openOf openDetachedOf
     open-agrees o =
         let l : length (allBut16 b) ≡ length b - 16 = length-take-le (length b - 16) b (omega arith) in
-        rw (holds-tag (length b) h, l)
+        rw (holds-tag (length b) h, first-zero (modeNumber (mode s)), l)
 
     -- in place it is the detached one before those 16 bytes
     pub open-in-place-agrees :
@@ -136,8 +134,8 @@ module _ (s : Session) (b : List ℕ) where
         let t = drop n b in
         let l : length c ≡ n = length-take-le n b (omega arith) in
         rw (holds-tag (length b) h, first-zero, l)
-        (ap₂ (settle (modeNumber (mode s)) s) (sym (take-append-drop n b)) (opened-followed s t c (decryptOut s c) (replicate n 0) t)
-        ∙ settle-followed (modeNumber (mode s)) s c (opened s t c (decryptOut s c) (replicate n 0)) t)
+        (ap₂ (settle (modeNumber (mode s)) 0 s) (sym (take-append-drop n b)) (opened-followed s t c (decryptOut s c) (replicate n 0) t)
+        ∙ settle-followed (modeNumber (mode s)) 0 s c (opened s t c (decryptOut s c) (replicate n 0)) t)
 
 module _ (s : Session) (keyed : mode s ≡ Keyed) where
   keyed-call : modeNumber (mode s) ≡ 0
@@ -150,47 +148,47 @@ module _ (s : Session) (keyed : mode s ≡ Keyed) where
 
     pub encrypt-is : encryptOf s o m ≡ taken (encryptEnd s m) noTag (encryptOut s m ++ drop (length m) o)
     unfolding encryptOf
-    encrypt-is = no-refusal s o _ room
+    encrypt-is = no-refusal _ s o _ room
 
     decrypt-is : decryptOf s o m ≡ taken (decryptEnd s m) noTag (decryptOut s m ++ drop (length m) o)
     unfolding decryptOf
-    decrypt-is = no-refusal s o _ room
+    decrypt-is = no-refusal _ s o _ room
 
     seal-detached-is : sealDetachedOf s o m ≡ taken (tagEnd (encryptEnd s m)) (tagOut (encryptEnd s m)) (encryptOut s m ++ drop (length m) o)
     unfolding sealDetachedOf
-    seal-detached-is = no-refusal s o _ room
+    seal-detached-is = no-refusal _ s o _ room
 
     open-detached-is : (t : Tag) → openDetachedOf s o t m ≡ opened s (t .bytes) m (decryptOut s m ++ drop (length m) o) (replicate (length o) 0)
     unfolding openDetachedOf
-    open-detached-is t = no-refusal s o _ room
+    open-detached-is t = no-refusal _ s o _ room
 
   seal-is :
       (o m : List ℕ) → length m + 16 ≤ length o
       → sealOf s o m ≡ taken (tagEnd (encryptEnd s m)) noTag (encryptOut s m ++ (tagOut (encryptEnd s m) ++ drop (length m + 16) o))
   unfolding sealOf
-  seal-is o m h = no-refusal s o _ (none-of keyed-call (fits (length o) (length m + 16) h))
+  seal-is o m h = no-refusal _ s o _ (none-of keyed-call (fits (length o) (length m + 16) h))
 
   seal-in-place-is : (b : List ℕ) → 16 ≤ length b
       → sealInPlaceOf s b
       ≡ taken (tagEnd (encryptEnd s (allBut16 b))) noTag (encryptOut s (allBut16 b) ++ tagOut (encryptEnd s (allBut16 b)))
   unfolding sealInPlaceOf
-  seal-in-place-is b g = no-refusal s b _ (none-of keyed-call (holds-tag (length b) g))
+  seal-in-place-is b g = no-refusal _ s b _ (none-of keyed-call (holds-tag (length b) g))
 
   encrypt-in-place-is : (b : List ℕ) → encryptInPlaceOf s b ≡ taken (encryptEnd s b) noTag (encryptOut s b)
   unfolding encryptInPlaceOf
-  encrypt-in-place-is b = no-refusal s b _ keyed-call
+  encrypt-in-place-is b = no-refusal _ s b _ keyed-call
 
   decrypt-in-place-is : (b : List ℕ) → decryptInPlaceOf s b ≡ taken (decryptEnd s b) noTag (decryptOut s b)
   unfolding decryptInPlaceOf
-  decrypt-in-place-is b = no-refusal s b _ keyed-call
+  decrypt-in-place-is b = no-refusal _ s b _ keyed-call
 
   seal-in-place-detached-is : (b : List ℕ) → sealInPlaceDetachedOf s b ≡ taken (tagEnd (encryptEnd s b)) (tagOut (encryptEnd s b)) (encryptOut s b)
   unfolding sealInPlaceDetachedOf
-  seal-in-place-detached-is b = no-refusal s b _ keyed-call
+  seal-in-place-detached-is b = no-refusal _ s b _ keyed-call
 
   open-in-place-detached-is : (b : List ℕ) (t : Tag) → openInPlaceDetachedOf s b t ≡ opened s (t .bytes) b (decryptOut s b) (replicate (length b) 0)
   unfolding openInPlaceDetachedOf
-  open-in-place-detached-is b t = no-refusal s b _ keyed-call
+  open-in-place-detached-is b t = no-refusal _ s b _ keyed-call
 
   -- ---- encrypt, then decrypt
   -- from an equal session decrypt gives the plaintext and ends where encrypt ended; bytes past it stay
@@ -358,66 +356,67 @@ no-other-tag {s} {m} {c} {t} x d =
     rw q at d
 
 -- ---- after 4
-mode-below : (m : Mode) → modeNumber m < 4
-mode-below Hash = lit< tt
-mode-below Keyed = lit< tt
+-- no number that comes before 4 is 4
+mode-other : (m : Mode) → modeNumber m ≢ 4
+mode-other Hash e = omega arith
+mode-other Keyed e = omega arith
 
-when-below : (b : Bool) → when b 3 < 4
-when-below true = lit< tt
-when-below false = lit< tt
+when-other : (b : Bool) (n : ℕ) → n ≢ 4 → when b n ≢ 4
+when-other true n h e = h e
+when-other false n h e = omega arith
 
-first-below : (a b : ℕ) → a < 4 → b < 4 → first a b < 4
-first-below zero b p q = q
-first-below (suc a) b p q = p
+first-other : (a b : ℕ) → a ≢ 4 → b ≢ 4 → first a b ≢ 4
+first-other zero b p q = q
+first-other (suc a) b p q = p
 
-room-below : (room result : ℕ) → roomNumber room result < 4
+room-other : (room result : ℕ) → roomNumber room result ≢ 4
 unfolding roomNumber
-room-below room result = when-below (ltb room result)
+room-other room result = when-other (ltb room result) 3 (λ e. omega arith)
 
-tail-below : (size : ℕ) → tailNumber size < 4
+tail-other : (size : ℕ) → tailNumber size ≢ 4
 unfolding tailNumber
-tail-below size = when-below (ltb size 16)
+tail-other size = when-other (ltb size 16) 10 (λ e. omega arith)
 
-verdict-4 : (b : Bool) (s : Session) (good bad : List ℕ) → verdict b s good bad .number ≡ 4 → verdict b s good bad ≡ refused s 4 bad
+verdict-4 : (b : Bool) (s : Session) (good bad : List ℕ) → verdict b s good bad .number ≡ 4 → verdict b s good bad ≡ refused s 4 0 bad
 verdict-4 true s good bad e = absurd (omega arith)
 verdict-4 false s good bad e = refl
 
 -- a call answered 4 stands advanced past the tag, and its buffer is the one made for that case
 opened-4 :
-    (n : ℕ) (s : Session) (o t c good bad : List ℕ) → n < 4 → settle n s o (opened s t c good bad) .number ≡ 4
-    → settle n s o (opened s t c good bad) ≡ refused (tagEnd (decryptEnd s c)) 4 bad
+    (n k : ℕ) (s : Session) (o t c good bad : List ℕ) → n ≢ 4 → settle n k s o (opened s t c good bad) .number ≡ 4
+    → settle n k s o (opened s t c good bad) ≡ refused (tagEnd (decryptEnd s c)) 4 0 bad
 unfolding opened
-opened-4 zero s o t c good bad h e = verdict-4 (sameBytes (tagOut (decryptEnd s c)) t) _ good bad e
-opened-4 (suc n) s o t c good bad h e = absurd (omega arith)
+opened-4 zero k s o t c good bad h e = verdict-4 (sameBytes (tagOut (decryptEnd s c)) t) _ good bad e
+opened-4 (suc n) k s o t c good bad h e = absurd (h e)
 
 -- the copying forms zero the whole output, also past the message
 pub open-detached-4 :
     (s : Session) (o c : List ℕ) (t : Tag) → openDetachedOf s o t c .number ≡ 4
-    → openDetachedOf s o t c ≡ refused (tagEnd (decryptEnd s c)) 4 (replicate (length o) 0)
+    → openDetachedOf s o t c ≡ refused (tagEnd (decryptEnd s c)) 4 0 (replicate (length o) 0)
 unfolding openDetachedOf
-open-detached-4 s o c t e = opened-4 _ s o (t .bytes) c _ _ (first-below _ _ (mode-below (mode s)) (room-below (length o) (length c))) e
+open-detached-4 s o c t e = opened-4 _ _ s o (t .bytes) c _ _ (first-other _ _ (mode-other (mode s)) (room-other (length o) (length c))) e
 
 -- the same, combined
 pub open-4 :
     (s : Session) (o b : List ℕ) → openOf s o b .number ≡ 4
-    → openOf s o b ≡ refused (tagEnd (decryptEnd s (allBut16 b))) 4 (replicate (length o) 0)
+    → openOf s o b ≡ refused (tagEnd (decryptEnd s (allBut16 b))) 4 0 (replicate (length o) 0)
 unfolding openOf
 open-4 s o b e =
-    opened-4 _ s o _ _ _ _ (first-below _ _ (mode-below (mode s)) (first-below _ _ (tail-below (length b)) (room-below (length o) (length b - 16)))) e
+    opened-4 _ _ s o _ _ _ _ (first-other _ _ (first-other _ _ (mode-other (mode s)) (tail-other (length b))) (room-other (length o) (length b - 16))) e
 
 -- the detached in-place form zeroes its buffer
 pub open-in-place-detached-4 :
     (s : Session) (b : List ℕ) (t : Tag) → openInPlaceDetachedOf s b t .number ≡ 4
-    → openInPlaceDetachedOf s b t ≡ refused (tagEnd (decryptEnd s b)) 4 (replicate (length b) 0)
+    → openInPlaceDetachedOf s b t ≡ refused (tagEnd (decryptEnd s b)) 4 0 (replicate (length b) 0)
 unfolding openInPlaceDetachedOf
-open-in-place-detached-4 s b t e = opened-4 _ s b (t .bytes) b _ _ (mode-below (mode s)) e
+open-in-place-detached-4 s b t e = opened-4 _ _ s b (t .bytes) b _ _ (mode-other (mode s)) e
 
 -- the combined in-place form zeroes all but the last 16 bytes, which keep the received tag
 pub open-in-place-4 :
     (s : Session) (b : List ℕ) → openInPlaceOf s b .number ≡ 4
-    → openInPlaceOf s b ≡ refused (tagEnd (decryptEnd s (allBut16 b))) 4 (replicate (length b - 16) 0 ++ last16 b)
+    → openInPlaceOf s b ≡ refused (tagEnd (decryptEnd s (allBut16 b))) 4 0 (replicate (length b - 16) 0 ++ last16 b)
 unfolding openInPlaceOf
-open-in-place-4 s b e = opened-4 _ s b _ _ _ _ (first-below _ _ (mode-below (mode s)) (tail-below (length b))) e
+open-in-place-4 s b e = opened-4 _ _ s b _ _ _ _ (first-other _ _ (mode-other (mode s)) (tail-other (length b))) e
 
 -- two calls of one form answered 4 with output lengths equal leave equal output bytes, whatever their keys
 module _ (s s′ : Session) where

@@ -2,7 +2,6 @@
 use mathlib.Core.Path.{_≡_, refl, ap, ap₂, _∙_}
 use mathlib.Core.Bool.{Bool, true, false}
 use mathlib.Core.List.{List, [], _∷_, _++_, append-assoc}
-use mathlib.Core.Logic.{inl}
 use Prim.Native.Nat.{ℕ, zero, suc, _+_, _-_, _<_, _≤_, zero-le}
 use native.Mathlib.Nat.{not-suc-le-zero, le-of-suc-le-suc, sub-zero, suc-sub-suc}
 use native.Mathlib.Omega.{arith}
@@ -87,13 +86,14 @@ module _ (key nonce id counter : List ℕ) where
 pub w8 :
     (key id nonce : List ℕ) (hasCounter : Bool) (counter : List ℕ) → length key ≡ 16 → length id ≡ 16 → length nonce ≡ 11
     → newOf key true nonce true id hasCounter counter .number ≡ 0
-w8 key id nonce hasCounter counter p q r = new-answers key true id true nonce hasCounter counter .number .1 .1 (tt, λ h. omega arith)
+w8 key id nonce hasCounter counter p q r = new-answers key true id true nonce hasCounter counter .number .1 .1 .1 .1 (((tt, λ h. omega arith), λ h. omega arith), λ h. omega arith)
 
--- of 16, 16, 12: 2
+-- of 16, 16, 12: 9
 pub w8-long :
     (key id nonce : List ℕ) (hasCounter : Bool) (counter : List ℕ) → length key ≡ 16 → length id ≡ 16 → length nonce ≡ 12
-    → newOf key true nonce true id hasCounter counter .number ≡ 2
-w8-long key id nonce hasCounter counter p q r = new-answers key true id true nonce hasCounter counter .number .0 .1 (tt, omega arith)
+    → newOf key true nonce true id hasCounter counter .number ≡ 9
+w8-long key id nonce hasCounter counter p q r =
+    new-answers key true id true nonce hasCounter counter .number .1 .1 .0 .1 (((tt, λ h. omega arith), λ h. omega arith), omega arith)
 
 -- ---- W9 encrypt empty, Keyed: session unchanged
 encrypt-empty : (s : Session) → encryptEnd s [] ≡ s
@@ -103,9 +103,9 @@ encrypt-empty s = refl
 pub w9 : (s : Session) (o : List ℕ) → mode s ≡ Keyed → (encryptOf s o [] .number ≡ 0) × (encryptOf s o [] .session ≡ s)
 w9 s o k = rw (encrypt-is s k o [] zero-le) (refl, encrypt-empty s)
 
--- ---- W10 combined open of 15 bytes: 3
-pub w10 : (s : Session) (o b : List ℕ) → mode s ≡ Keyed → length b ≡ 15 → openOf s o b .number ≡ 3
-w10 s o b k e = open-answers s o b .number .1 .0 .1 ((tt, keyed-iff (mode s) .1 k), inl (omega arith))
+-- ---- W10 combined open of 15 bytes: 10
+pub w10 : (s : Session) (o b : List ℕ) → mode s ≡ Keyed → length b ≡ 15 → openOf s o b .number ≡ 10
+w10 s o b k e = open-answers s o b .number .1 .0 .1 ((tt, keyed-iff (mode s) .1 k), omega arith)
 
 -- of 16 bytes into an empty output: a tag decision
 decrypt-empty : (s : Session) → decryptEnd s [] ≡ s

@@ -81,7 +81,7 @@ pub ratchet-end :
 unfolding ratchetOf down up upBytes
 ratchet-end s keyed =
     let d = s .duplex in
-    ap (λ (m : Mode). settle (modeNumber m) s [] (taken (onward s (ratchet d)) noTag []) .session .duplex) keyed
+    ap (λ (m : Mode). settle (modeNumber m) 0 s [] (taken (onward s (ratchet d)) noTag []) .session .duplex) keyed
     ∙ ratchet-is d
     ∙ ap (λ (m : Mode). down (up (record { st = d .st; mode = m; phase = d .phase }) 0x10) (take 16 (upBytes m 0x10 (d .st))) 0) keyed
     ∙ ap (λ (b : List ℕ). record { st = b; mode = Keyed; phase = Down }) (down-16 (permuted s) (rw xoodoo-length (lit≤ tt)))

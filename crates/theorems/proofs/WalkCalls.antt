@@ -44,9 +44,9 @@ module _ (m : Mode) (p : Phase) (c : Call) (st : List ℕ) where
   step-accepted h = rw (sym step-number ∙ h)
 
 -- ---- and its call is the session's
-settle-number : (n : ℕ) (s : Session) (o : List ℕ) (x : Outcome) → x .number ≡ 0 → settle n s o x .number ≡ n
-settle-number zero s o x h = h
-settle-number (suc n) s o x h = refl
+settle-number : (n k : ℕ) (s : Session) (o : List ℕ) (x : Outcome) → x .number ≡ 0 → settle n k s o x .number ≡ n
+settle-number zero k s o x h = h
+settle-number (suc n) k s o x h = refl
 
 -- ---- calls of both modes
 pub absorb-number : (s : Session) (x : List ℕ) → absorbOf s x .number ≡ callNumber (mode s) (absorbs x)
@@ -59,7 +59,7 @@ absorb-end s x = refl
 
 pub absorb-more-number : (s : Session) (x : List ℕ) (r : ℕ) → absorbMoreOf s x r .number ≡ callNumber (mode s) (absorbsMore x r)
 unfolding absorbMoreOf callNumber
-absorb-more-number s x r = settle-number _ s [] _ refl
+absorb-more-number s x r = settle-number _ _ s [] _ refl
 
 pub absorb-more-end : (s : Session) (x : List ℕ) (r : ℕ) → absorbMoreOf s x r .number ≡ 0
     → absorbMoreOf s x r .session .duplex ≡ forward (absorbsMore x r) (s .duplex)
@@ -94,17 +94,17 @@ squeeze-more-end s o = refl
 module _ (s : Session) (key : List ℕ) (hasId : Bool) (id : List ℕ) (hasNonce : Bool) (nonce : List ℕ) (hasCounter : Bool) (counter : List ℕ) where
   pub key-number : keyOf s key hasId id hasNonce nonce hasCounter counter .number ≡ callNumber (mode s) (keys key hasId id hasNonce nonce hasCounter counter)
   unfolding keyOf callNumber
-  key-number = settle-number _ s [] _ refl
+  key-number = settle-number _ _ s [] _ refl
 
   pub key-end : keyOf s key hasId id hasNonce nonce hasCounter counter .number ≡ 0
       → keyOf s key hasId id hasNonce nonce hasCounter counter .session .duplex ≡ forward (keys key hasId id hasNonce nonce hasCounter counter) (s .duplex)
   unfolding keyOf forward callNumber
   key-end h = rw (sym (key-number) ∙ h)
 
--- ---- encryption and sealing: number 3 is of a buffer, which walking back has not
+-- ---- encryption and sealing: numbers 3 and 10 are of a buffer, which walking back has not
 pub encrypt-number : (s : Session) (o m : List ℕ) → encryptOf s o m .number ≡ first (callNumber (mode s) (encrypts m)) (roomNumber (length o) (length m))
 unfolding encryptOf callNumber
-encrypt-number s o m = settle-number _ s o _ refl
+encrypt-number s o m = settle-number _ _ s o _ refl
 
 pub encrypt-end : (s : Session) (o m : List ℕ) → encryptOf s o m .number ≡ 0 → encryptOf s o m .session .duplex ≡ forward (encrypts m) (s .duplex)
 unfolding encryptOf encryptEnd forward callNumber
@@ -112,7 +112,7 @@ encrypt-end s o m h = rw (sym (encrypt-number s o m) ∙ h)
 
 pub encrypt-in-place-number : (s : Session) (b : List ℕ) → encryptInPlaceOf s b .number ≡ callNumber (mode s) (encrypts b)
 unfolding encryptInPlaceOf callNumber
-encrypt-in-place-number s b = settle-number _ s b _ refl
+encrypt-in-place-number s b = settle-number _ _ s b _ refl
 
 pub encrypt-in-place-end : (s : Session) (b : List ℕ) → encryptInPlaceOf s b .number ≡ 0 → encryptInPlaceOf s b .session .duplex ≡ forward (encrypts b) (s .duplex)
 unfolding encryptInPlaceOf encryptEnd forward callNumber
@@ -120,7 +120,7 @@ encrypt-in-place-end s b h = rw (sym (encrypt-in-place-number s b) ∙ h)
 
 pub seal-detached-number : (s : Session) (o m : List ℕ) → sealDetachedOf s o m .number ≡ first (callNumber (mode s) (seals m)) (roomNumber (length o) (length m))
 unfolding sealDetachedOf callNumber
-seal-detached-number s o m = settle-number _ s o _ refl
+seal-detached-number s o m = settle-number _ _ s o _ refl
 
 pub seal-detached-end : (s : Session) (o m : List ℕ) → sealDetachedOf s o m .number ≡ 0 → sealDetachedOf s o m .session .duplex ≡ forward (seals m) (s .duplex)
 unfolding sealDetachedOf encryptEnd tagEnd forward callNumber
@@ -128,7 +128,7 @@ seal-detached-end s o m h = rw (sym (seal-detached-number s o m) ∙ h)
 
 pub seal-number : (s : Session) (o m : List ℕ) → sealOf s o m .number ≡ first (callNumber (mode s) (seals m)) (roomNumber (length o) (length m + 16))
 unfolding sealOf callNumber
-seal-number s o m = settle-number _ s o _ refl
+seal-number s o m = settle-number _ _ s o _ refl
 
 pub seal-end : (s : Session) (o m : List ℕ) → sealOf s o m .number ≡ 0 → sealOf s o m .session .duplex ≡ forward (seals m) (s .duplex)
 unfolding sealOf encryptEnd tagEnd forward callNumber
@@ -136,7 +136,7 @@ seal-end s o m h = rw (sym (seal-number s o m) ∙ h)
 
 pub seal-in-place-detached-number : (s : Session) (b : List ℕ) → sealInPlaceDetachedOf s b .number ≡ callNumber (mode s) (seals b)
 unfolding sealInPlaceDetachedOf callNumber
-seal-in-place-detached-number s b = settle-number _ s b _ refl
+seal-in-place-detached-number s b = settle-number _ _ s b _ refl
 
 pub seal-in-place-detached-end : (s : Session) (b : List ℕ) → sealInPlaceDetachedOf s b .number ≡ 0
     → sealInPlaceDetachedOf s b .session .duplex ≡ forward (seals b) (s .duplex)
@@ -146,7 +146,7 @@ seal-in-place-detached-end s b h = rw (sym (seal-in-place-detached-number s b) �
 pub seal-in-place-number : (s : Session) (b : List ℕ)
     → sealInPlaceOf s b .number ≡ first (callNumber (mode s) (seals (take (length b - 16) b))) (tailNumber (length b))
 unfolding sealInPlaceOf callNumber
-seal-in-place-number s b = settle-number _ s b _ refl
+seal-in-place-number s b = settle-number _ _ s b _ refl
 
 pub seal-in-place-end : (s : Session) (b : List ℕ) → sealInPlaceOf s b .number ≡ 0
     → sealInPlaceOf s b .session .duplex ≡ forward (seals (take (length b - 16) b)) (s .duplex)
@@ -191,7 +191,7 @@ decrypted-end s c = sym (as-encryption (length c) c (le-refl _) 0x80 (s .duplex)
 pub decrypt-number : (s : Session) (o c : List ℕ)
     → decryptOf s o c .number ≡ first (callNumber (mode s) (encrypts (decryptOut s c))) (roomNumber (length o) (length c))
 unfolding decryptOf callNumber
-decrypt-number s o c = settle-number _ s o _ refl
+decrypt-number s o c = settle-number _ _ s o _ refl
 
 pub decrypt-end : (s : Session) (o c : List ℕ) → decryptOf s o c .number ≡ 0
     → decryptOf s o c .session .duplex ≡ forward (encrypts (decryptOut s c)) (s .duplex)
@@ -200,7 +200,7 @@ decrypt-end s o c h = rw (sym (decrypt-number s o c) ∙ h) (decrypted-end s c)
 
 pub decrypt-in-place-number : (s : Session) (b : List ℕ) → decryptInPlaceOf s b .number ≡ callNumber (mode s) (encrypts (decryptOut s b))
 unfolding decryptInPlaceOf callNumber
-decrypt-in-place-number s b = settle-number _ s b _ refl
+decrypt-in-place-number s b = settle-number _ _ s b _ refl
 
 pub decrypt-in-place-end : (s : Session) (b : List ℕ) → decryptInPlaceOf s b .number ≡ 0
     → decryptInPlaceOf s b .session .duplex ≡ forward (encrypts (decryptOut s b)) (s .duplex)

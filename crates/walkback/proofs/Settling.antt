@@ -1,15 +1,17 @@
 -- The number of a refusal, and what is then handed back.
 use mathlib.Core.Path.{_≡_, refl, sym, _∙_}
 use mathlib.Core.Logic.{⊎-elim}
+use mathlib.Core.Bool.{Bool, true, false}
 use mathlib.Core.List.{List}
 use Prim.Native.Nat.{ℕ, zero, suc, _+_, _-_, _<_, _≤_}
 use native.Mathlib.Nat.{not-suc-le-zero, eq-zero-or-pos}
 use native.Mathlib.Omega.{arith}
-use borrow.Author.Tests.{lt-ltb, le-ltb}
+use lib.Dec.{ltb}
+use borrow.Author.Tests.{ltb-false, lt-ltb, le-ltb}
 use Rattle.xoodyak.specs.declared.cyclist.Mode.{Mode}
 use Rattle.xoodyak.specs.declared.cyclist.Phase.{Phase}
 use Rattle.xoodyak.specs.Cyclist.{absorbRate}
-use Rattle.xoodyak.specs.Numbers.{first, keyNumber, rateNumber}
+use Rattle.xoodyak.specs.Numbers.{when, first, keyNumber, rateNumber}
 use Rattle.walkback.specs.declared.Before.{Before}
 use Rattle.walkback.proofs.Undoing.{absorb-rate-le}
 use Rattle.walkback.specs.Walk.{unlessEmpty, settled, Call, callNumber, back, beforeOf}
@@ -22,14 +24,23 @@ pub unless-pos : (n : ℕ) (p q : Phase) → 0 < n → unlessEmpty n p q ≡ q
 unless-pos zero p q h = absurd (not-suc-le-zero h)
 unless-pos (suc n) p q h = refl
 
--- key + 1 + key id + nonce exceeds 44, or not
-pub key-over : (k i n : ℕ) → 44 < k + 1 + i + n → keyNumber k i n ≡ 2
-unfolding keyNumber
-key-over k i n h = rw (lt-ltb 44 (k + 1 + i + n) h)
+-- the key alone exceeds 43; key and key id do; only the nonce breaks it; or nothing does
+module _ (k i n : ℕ) where
+  pub key-over : 43 < k → 2 ≡ keyNumber k i n
+  unfolding keyNumber
+  key-over h = rw (lt-ltb 43 k h)
 
-pub key-within : (k i n : ℕ) → k + 1 + i + n ≤ 44 → keyNumber k i n ≡ 0
-unfolding keyNumber
-key-within k i n h = rw (le-ltb 44 (k + 1 + i + n) h)
+  pub id-over : k ≤ 43 → 43 < k + i → 8 ≡ keyNumber k i n
+  unfolding keyNumber
+  id-over h j = rw (le-ltb 43 k h, lt-ltb 43 (k + i) j)
+
+  pub nonce-over : k ≤ 43 → k + i ≤ 43 → 44 < k + 1 + i + n → 9 ≡ keyNumber k i n
+  unfolding keyNumber
+  nonce-over h j l = rw (le-ltb 43 k h, le-ltb 43 (k + i) j, lt-ltb 44 (k + 1 + i + n) l)
+
+  pub key-within : k ≤ 43 → k + i ≤ 43 → k + 1 + i + n ≤ 44 → 0 ≡ keyNumber k i n
+  unfolding keyNumber
+  key-within h j l = rw (le-ltb 43 k h, le-ltb 43 (k + i) j, le-ltb 44 (k + 1 + i + n) l)
 
 -- the rate is above the absorb rate, or not
 pub rate-over : (m : Mode) (r : ℕ) → absorbRate m < r → rateNumber m r ≡ 5
@@ -60,11 +71,16 @@ first-second : (a b : ℕ) → first a b ≡ 0 → b ≡ 0
 first-second zero b h = h
 first-second (suc a) b h = absurd (omega (arith, h))
 
+when-none : (t : Bool) (n : ℕ) → when t (suc n) ≡ 0 → t ≡ false
+when-none true n e = absurd (omega (arith, e))
+when-none false n e = refl
+
 pub key-bounds : (m k i n : ℕ) → first m (keyNumber k i n) ≡ 0 → k + 1 + i + n ≤ 44
+unfolding keyNumber
 key-bounds m k i n h =
-    ⊎-elim (λ z. omega (arith, z))
-    (λ z. absurd (omega (arith, sym (key-over k i n (omega (arith, z))) ∙ first-second m (keyNumber k i n) h)))
-    (eq-zero-or-pos (k + 1 + i + n - 44))
+    let a = when (ltb 43 k) 2 in
+    let b = when (ltb 43 (k + i)) 8 in
+    ltb-false 44 (k + 1 + i + n) (when-none _ 8 (first-second b _ (first-second a _ (first-second m (keyNumber k i n) h))))
 
 -- ---- what is handed back
 pub before-taken : (m : Mode) (p : Phase) (c : Call) (st b : List ℕ) (a : Before) → callNumber m c ≡ 0 → b ≡ back m p c st

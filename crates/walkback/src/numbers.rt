@@ -37,20 +37,18 @@ pub(crate) fn mode_number(mode: Mode) -> u8
     }
 }
 
-// Each length is tested by itself first, so that no sum of lengths wraps.
+// Each length is tested against what is left, so that no sum of lengths wraps.
 pub(crate) fn key_number(key: usize, id: usize, nonce: usize) -> u8
     ensures { λ r. ⌜ r ≡ keyNumber key id nonce ⌝ }
 {
     if key > 43 {
         return 2;
     }
-    if id > 43 {
-        return 2;
+    let left = 43 - key;
+    if id > left {
+        return 8;
     }
-    if nonce > 43 {
-        return 2;
-    }
-    if key + 1 + id + nonce > 44 { 2 } else { 0 }
+    if nonce > left - id { 9 } else { 0 }
 }
 
 pub(crate) fn rate_number(mode: Mode, rate: usize) -> u8

@@ -1,8 +1,8 @@
 -- Sealing and opening as the calls run them: what was copied, encrypted, squeezed and compared makes up the outcome.
-use mathlib.Core.Path.{_≡_, refl, sym, ap, _∙_}
+use mathlib.Core.Path.{_≡_, sym, ap, _∙_}
 use mathlib.Core.Bool.{Bool, true, false}
 use mathlib.Core.List.{List, _++_, append-nil}
-use Prim.Native.Nat.{ℕ, zero, suc, _+_, _-_, _≤_}
+use Prim.Native.Nat.{ℕ, _+_, _-_, _≤_}
 use native.Mathlib.Omega.{arith}
 use lib.ListN.{length, replicate, take, drop, length-append, length-drop, drop-of-length-le}
 use lib.Seq.{length-take-le, take-all, take-at, drop-at}
@@ -10,9 +10,9 @@ use borrow.Rule.Slice.PartMut.{putMid}
 use Rattle.laws.proofs.Lists.{put-front-tail, front-mid}
 use Rattle.xoodyak.specs.declared.Session.{Session}
 use Rattle.xoodyak.specs.declared.tag.Tag.{Tag}
-use Rattle.xoodyak.specs.Numbers.{first, modeNumber, roomNumber, tailNumber}
+use Rattle.xoodyak.specs.Numbers.{first, modeNumber, roomNumber, missing, tailNumber}
 use Rattle.xoodyak.specs.Calls.{Outcome, noTag, taken, refused, mode, encryptEnd, encryptOut, decryptEnd, decryptOut, tagEnd, tagOut, sameBytes, sealDetachedOf, sealOf, sealInPlaceDetachedOf, sealInPlaceOf, verdict, opened, openDetachedOf, openOf, openInPlaceDetachedOf, openInPlaceOf}
-use Rattle.xoodyak.proofs.Settle.{settle-taken, settle-refused, first-zero, first-other, room-fits, tail-fits, copied-front, copied-rest}
+use Rattle.xoodyak.proofs.Settle.{settle-taken, room-refused, first-zero, first-other, room-fits, tail-fits, copied-front, copied-rest}
 
 -- ---- what the number k of a call that was not refused tells of its lengths
 module _ (s : Session) (k : ℕ) (z : k ≡ 0) where
@@ -22,22 +22,18 @@ module _ (s : Session) (k : ℕ) (z : k ≡ 0) where
   pub long : (size : ℕ) → k ≡ first (modeNumber (mode s)) (tailNumber size) → 16 ≤ size
   long size e = tail-fits size (first-zero (modeNumber (mode s)) (tailNumber size) (sym e ∙ z) .1)
 
--- the first of three, which a call tests in two steps
-first-assoc : (a b c : ℕ) → first a (first b c) ≡ first (first a b) c
-first-assoc zero b c = refl
-first-assoc (suc a) b c = refl
+-- the first of two, a and b, which a call tests in two steps; its first number j is a
+module _ (j a b : ℕ) (ej : j ≡ a) where
+  pub earlier : (j ≡ 0 → ⊥) → j ≡ first a b
+  earlier h = sym (first-other j b h) ∙ rw ej
 
-module _ (j a b c : ℕ) (ej : j ≡ first a b) where
-  pub three-refused : (j ≡ 0 → ⊥) → j ≡ first a (first b c)
-  three-refused h = sym (first-other j c h) ∙ rw (first-assoc, ej)
+  pub later : (k : ℕ) → j ≡ 0 → k ≡ b → k ≡ first a b
+  later k z ek = rw (← ej, z, ek)
 
-  pub three-last : (k : ℕ) → j ≡ 0 → k ≡ c → k ≡ first a (first b c)
-  three-last k z ek = rw (first-assoc, ← ej, z, ek)
-
-pub open-refused : (s : Session) (o i : List ℕ) (k : ℕ) → k ≡ first (modeNumber (mode s)) (first (tailNumber (length i)) (roomNumber (length o) (length i - 16))) → (k ≡ 0 → ⊥)
-    → refused s k o ≡ openOf s o i
+pub open-refused : (s : Session) (o i : List ℕ) (k m : ℕ) → k ≡ first (first (modeNumber (mode s)) (tailNumber (length i))) (roomNumber (length o) (length i - 16)) → m ≡ missing k (length o) (length i - 16) → (k ≡ 0 → ⊥)
+    → refused s k m o ≡ openOf s o i
 unfolding openOf
-open-refused s o i k ek h = sym (settle-refused _ k ek s o _ h)
+open-refused s o i k m ek em h = room-refused _ k m _ _ ek em s o _ h
 
 -- ---- parts that were lent
 -- a front that was lent leaves the length as it was
@@ -61,30 +57,30 @@ module _ (s a b : Session) (x f t : List ℕ) (ea : a ≡ encryptEnd s x) (ef : 
   pub seal-detached : (o m w : List ℕ) → k ≡ first (modeNumber (mode s)) (roomNumber (length o) (length m)) → w ≡ m ++ drop (length m) o → x ≡ take (length m) w
       → taken b t (f ++ drop (length m) w) ≡ sealDetachedOf s o m
   unfolding sealDetachedOf
-  seal-detached o m w ek ew ex = rw (eb, et, ef, ea, ex, copied-front m o w ew, copied-rest m o w ew) (sym (settle-taken _ k ek s o _ z))
+  seal-detached o m w ek ew ex = rw (eb, et, ef, ea, ex, copied-front m o w ew, copied-rest m o w ew) (sym (settle-taken _ k ek _ s o _ z))
 
   pub seal-copy : (o m w : List ℕ) → k ≡ first (modeNumber (mode s)) (roomNumber (length o) (length m + 16)) → w ≡ m ++ drop (length m) o → x ≡ take (length m) w → length f ≡ length m
       → taken b noTag (putMid (length m) (length m + 16 - length m) (f ++ drop (length m) w) t) ≡ sealOf s o m
   unfolding sealOf
   seal-copy o m w ek ew ex lf =
       rw (front-mid (length m) (length m + 16) f w o t lf (omega arith) (copied-rest m o w ew), eb, et, ef, ea, ex, copied-front m o w ew)
-      (sym (settle-taken _ k ek s o _ z))
+      (sym (settle-taken _ k ek _ s o _ z))
 
   pub seal-in-place-detached : k ≡ modeNumber (mode s) → taken b t f ≡ sealInPlaceDetachedOf s x
   unfolding sealInPlaceDetachedOf
-  seal-in-place-detached ek = rw (eb, et, ef, ea) (sym (settle-taken _ k ek s x _ z))
+  seal-in-place-detached ek = rw (eb, et, ef, ea) (sym (settle-taken _ k ek _ s x _ z))
 
   pub seal-in-place : (o : List ℕ) → k ≡ first (modeNumber (mode s)) (tailNumber (length o)) → x ≡ take (length o - 16) o → length f ≡ length o - 16
       → taken b noTag (putMid (length o - 16) (length (f ++ drop (length o - 16) o) - (length o - 16)) (f ++ drop (length o - 16) o) t) ≡ sealInPlaceOf s o
   unfolding sealInPlaceOf
-  seal-in-place o ek ex lf = rw (put-front-tail (length o - 16) f o t lf, eb, et, ef, ea, ex) (sym (settle-taken _ k ek s o _ z))
+  seal-in-place o ek ex lf = rw (put-front-tail (length o - 16) f o t lf, eb, et, ef, ea, ex) (sym (settle-taken _ k ek _ s o _ z))
 
 -- ---- the comparison decided
 module _ (v : Bool) (s : Session) (good bad : List ℕ) (y : Outcome) where
   pub same : v ≡ true → verdict v s good bad ≡ y → taken s noTag good ≡ y
   same e h = sym (ap (λ (u : Bool). verdict u s good bad) e) ∙ h
 
-  pub differs : v ≡ false → verdict v s good bad ≡ y → refused s 4 bad ≡ y
+  pub differs : v ≡ false → verdict v s good bad ≡ y → refused s 4 0 bad ≡ y
   differs e h = sym (ap (λ (u : Bool). verdict u s good bad) e) ∙ h
 
 -- ---- opening: x was decrypted to f, t squeezed and compared with u
@@ -97,9 +93,9 @@ module _ (s a b : Session) (x f t u : List ℕ) (v : Bool) (ea : a ≡ decryptEn
       → verdict v b (f ++ drop (length m) w) (replicate (length o) 0) ≡ openDetachedOf s o tag m
   unfolding openDetachedOf
   open-detached o m w tag ek ew ex eu =
-      opened-is _ _ ∙ rw (ef, ex, copied-front m o w ew, copied-rest m o w ew, eu) (sym (settle-taken _ k ek s o _ z))
+      opened-is _ _ ∙ rw (ef, ex, copied-front m o w ew, copied-rest m o w ew, eu) (sym (settle-taken _ k ek _ s o _ z))
 
-  pub open-copy : (o i w : List ℕ) → 16 ≤ length i → k ≡ first (modeNumber (mode s)) (first (tailNumber (length i)) (roomNumber (length o) (length i - 16)))
+  pub open-copy : (o i w : List ℕ) → 16 ≤ length i → k ≡ first (first (modeNumber (mode s)) (tailNumber (length i))) (roomNumber (length o) (length i - 16))
       → w ≡ take (length i - 16) i ++ drop (length (take (length i - 16) i)) o → x ≡ take (length i - 16) w → u ≡ drop (length i - 16) i
       → verdict v b (f ++ drop (length i - 16) w) (replicate (length o) 0) ≡ openOf s o i
   unfolding openOf
@@ -108,14 +104,14 @@ module _ (s a b : Session) (x f t u : List ℕ) (v : Bool) (ea : a ≡ decryptEn
       let m = take n i in
       let l : length m ≡ n = length-take-le n i (omega arith) in
       let e : w ≡ m ++ drop n o = ew ∙ ap (λ (j : ℕ). m ++ drop j o) l in
-      opened-is _ _ ∙ rw (ef, ex, e, take-at m (drop n o) n l, drop-at m (drop n o) n l, eu) (sym (settle-taken _ k ek s o _ z))
+      opened-is _ _ ∙ rw (ef, ex, e, take-at m (drop n o) n l, drop-at m (drop n o) n l, eu) (sym (settle-taken _ k ek _ s o _ z))
 
   pub open-in-place-detached : (tag : Tag) → k ≡ modeNumber (mode s) → u ≡ tag .bytes
       → verdict v b f (replicate (length x) 0) ≡ openInPlaceDetachedOf s x tag
   unfolding openInPlaceDetachedOf
-  open-in-place-detached tag ek eu = opened-is _ _ ∙ rw (ef, eu) (sym (settle-taken _ k ek s x _ z))
+  open-in-place-detached tag ek eu = opened-is _ _ ∙ rw (ef, eu) (sym (settle-taken _ k ek _ s x _ z))
 
   pub open-in-place : (o : List ℕ) → k ≡ first (modeNumber (mode s)) (tailNumber (length o)) → x ≡ take (length o - 16) o → u ≡ drop (length o - 16) o
       → verdict v b (f ++ drop (length o - 16) o) (replicate (length o - 16) 0 ++ drop (length o - 16) o) ≡ openInPlaceOf s o
   unfolding openInPlaceOf
-  open-in-place o ek ex eu = opened-is _ _ ∙ rw (ef, eu, ex) (sym (settle-taken _ k ek s o _ z))
+  open-in-place o ek ex eu = opened-is _ _ ∙ rw (ef, eu, ex) (sym (settle-taken _ k ek _ s o _ z))

@@ -12,11 +12,12 @@ use Rattle.xoodyak.specs.declared.Session.{Session}
 use Rattle.xoodyak.specs.declared.Answer.{Answer}
 use Rattle.xoodyak.specs.declared.Sealed.{Sealed}
 use Rattle.xoodyak.specs.Cyclist.{fresh, absorbRate, absorb, absorbMore, squeezeEnd, squeezeOut, squeezeMoreEnd, squeezeMoreOut, messageBlocks, encEnd, encOut, decEnd, decOut, ratchet, given, keyCall}
-use Rattle.xoodyak.specs.Numbers.{first, modeNumber, keyNumber, roomNumber, tailNumber, rateNumber}
+use Rattle.xoodyak.specs.Numbers.{first, modeNumber, keyNumber, roomNumber, missing, tailNumber, rateNumber}
 
 pub record Outcome : Type 0 where
   pub session : Session
   pub number : ℕ
+  pub missing : ℕ
   pub tag : List ℕ
   pub bytes : List ℕ
 
@@ -25,22 +26,28 @@ noTag = replicate 16 0
 
 -- what the code hands back of it
 abbrev pub answerOf : Outcome → Answer
-answerOf x = record { session = x .session; number = x .number }
+answerOf x = record { session = x .session; number = x .number; missing = x .missing }
 
 abbrev pub sealedOf : Outcome → Sealed
-sealedOf x = record { session = x .session; number = x .number; tag = record { bytes = x .tag } }
+sealedOf x = record { session = x .session; number = x .number; missing = x .missing; tag = record { bytes = x .tag } }
 
 -- accepted; refused, where session and buffer hold what they held; the tag differs
 abbrev pub taken : Session → List ℕ → List ℕ → Outcome
-taken s t o = record { session = s; number = 0; tag = t; bytes = o }
+taken s t o = record { session = s; number = 0; missing = 0; tag = t; bytes = o }
 
-abbrev pub refused : Session → ℕ → List ℕ → Outcome
-refused s n o = record { session = s; number = n; tag = noTag; bytes = o }
+abbrev pub refused : Session → ℕ → ℕ → List ℕ → Outcome
+refused s n k o = record { session = s; number = n; missing = k; tag = noTag; bytes = o }
 
--- refused with the number given, or what the call does where it is 0
-abbrev pub settle : ℕ → Session → List ℕ → Outcome → Outcome
-settle zero s o x = x
-settle (suc n) s o x = refused s (suc n) o
+-- refused with the number given and the bytes that an output lacks, or what the call does where the number is 0
+abbrev pub settle : ℕ → ℕ → Session → List ℕ → Outcome → Outcome
+settle zero k s o x = x
+settle (suc n) k s o x = refused s (suc n) k o
+
+-- a call that writes a result into an output with so much room: `before` is what comes before 3
+abbrev pub settleRoom : ℕ → ℕ → ℕ → Session → List ℕ → Outcome → Outcome
+settleRoom before room result s o x =
+    let n = first before (roomNumber room result) in
+    settle n (missing n room result) s o x
 
 -- a session made new, and one whose bytes and phase moved on
 abbrev pub session : Mode → Session
@@ -57,7 +64,7 @@ unfoldable pub absorbOf : Session → List ℕ → Outcome
 absorbOf s x = taken (onward s (absorb (absorbRate (mode s)) 3 (s .duplex) x)) noTag []
 
 unfoldable pub absorbMoreOf : Session → List ℕ → ℕ → Outcome
-absorbMoreOf s x r = settle (rateNumber (mode s) r) s [] (taken (onward s (absorbMore r (s .duplex) x)) noTag [])
+absorbMoreOf s x r = settle (rateNumber (mode s) r) 0 s [] (taken (onward s (absorbMore r (s .duplex) x)) noTag [])
 
 -- squeeze has colour 40, squeeze_key 20
 unfoldable pub squeezeOf : ℕ → Session → List ℕ → Outcome
@@ -69,17 +76,17 @@ squeezeMoreOf s o = taken (onward s (squeezeMoreEnd (s .duplex) (length o))) noT
 -- ---- keyed calls
 unfoldable pub keyOf : Session → List ℕ → Bool → List ℕ → Bool → List ℕ → Bool → List ℕ → Outcome
 keyOf s key hasId id hasNonce nonce hasCounter counter =
-    settle (first (modeNumber (mode s)) (keyNumber (length key) (length (given hasId id)) (length (given hasNonce nonce)))) s []
+    settle (first (modeNumber (mode s)) (keyNumber (length key) (length (given hasId id)) (length (given hasNonce nonce)))) 0 s []
     (taken (onward s (keyCall (s .duplex) key hasId (given hasId id) (given hasNonce nonce) hasCounter counter)) noTag [])
 
 -- refused, it hands back a fresh Hash session
 unfoldable pub newOf : List ℕ → Bool → List ℕ → Bool → List ℕ → Bool → List ℕ → Outcome
 newOf key hasNonce nonce hasId id hasCounter counter =
-    settle (keyNumber (length key) (length (given hasId id)) (length (given hasNonce nonce))) (session Hash) []
+    settle (keyNumber (length key) (length (given hasId id)) (length (given hasNonce nonce))) 0 (session Hash) []
     (taken (onward (session Keyed) (keyCall (fresh Keyed) key hasId (given hasId id) (given hasNonce nonce) hasCounter counter)) noTag [])
 
 unfoldable pub ratchetOf : Session → Outcome
-ratchetOf s = settle (modeNumber (mode s)) s [] (taken (onward s (ratchet (s .duplex))) noTag [])
+ratchetOf s = settle (modeNumber (mode s)) 0 s [] (taken (onward s (ratchet (s .duplex))) noTag [])
 
 -- a message encrypted or decrypted: the first Up has 80
 unfoldable pub encryptEnd : Session → List ℕ → Session
@@ -97,19 +104,19 @@ decryptOut s c = decOut (messageBlocks c) 0x80 (s .duplex)
 -- bytes past the result keep what they held
 unfoldable pub encryptOf : Session → List ℕ → List ℕ → Outcome
 encryptOf s o m =
-    settle (first (modeNumber (mode s)) (roomNumber (length o) (length m))) s o
+    settleRoom (modeNumber (mode s)) (length o) (length m) s o
     (taken (encryptEnd s m) noTag (encryptOut s m ++ drop (length m) o))
 
 unfoldable pub decryptOf : Session → List ℕ → List ℕ → Outcome
 decryptOf s o c =
-    settle (first (modeNumber (mode s)) (roomNumber (length o) (length c))) s o
+    settleRoom (modeNumber (mode s)) (length o) (length c) s o
     (taken (decryptEnd s c) noTag (decryptOut s c ++ drop (length c) o))
 
 unfoldable pub encryptInPlaceOf : Session → List ℕ → Outcome
-encryptInPlaceOf s b = settle (modeNumber (mode s)) s b (taken (encryptEnd s b) noTag (encryptOut s b))
+encryptInPlaceOf s b = settle (modeNumber (mode s)) 0 s b (taken (encryptEnd s b) noTag (encryptOut s b))
 
 unfoldable pub decryptInPlaceOf : Session → List ℕ → Outcome
-decryptInPlaceOf s b = settle (modeNumber (mode s)) s b (taken (decryptEnd s b) noTag (decryptOut s b))
+decryptInPlaceOf s b = settle (modeNumber (mode s)) 0 s b (taken (decryptEnd s b) noTag (decryptOut s b))
 
 -- ---- the tag: 16 bytes squeezed
 unfoldable pub tagEnd : Session → Session
@@ -140,29 +147,29 @@ verifyOf t b = tagNumber (sameBytes (t .bytes) b)
 -- ---- sealing: encrypt, then squeeze the tag
 unfoldable pub sealDetachedOf : Session → List ℕ → List ℕ → Outcome
 sealDetachedOf s o m =
-    settle (first (modeNumber (mode s)) (roomNumber (length o) (length m))) s o
+    settleRoom (modeNumber (mode s)) (length o) (length m) s o
     (taken (tagEnd (encryptEnd s m)) (tagOut (encryptEnd s m)) (encryptOut s m ++ drop (length m) o))
 
 unfoldable pub sealOf : Session → List ℕ → List ℕ → Outcome
 sealOf s o m =
-    settle (first (modeNumber (mode s)) (roomNumber (length o) (length m + 16))) s o
+    settleRoom (modeNumber (mode s)) (length o) (length m + 16) s o
     (taken (tagEnd (encryptEnd s m)) noTag (encryptOut s m ++ (tagOut (encryptEnd s m) ++ drop (length m + 16) o)))
 
 unfoldable pub sealInPlaceDetachedOf : Session → List ℕ → Outcome
 sealInPlaceDetachedOf s b =
-    settle (modeNumber (mode s)) s b (taken (tagEnd (encryptEnd s b)) (tagOut (encryptEnd s b)) (encryptOut s b))
+    settle (modeNumber (mode s)) 0 s b (taken (tagEnd (encryptEnd s b)) (tagOut (encryptEnd s b)) (encryptOut s b))
 
 -- the message is all of b but its last 16 bytes, which become the tag
 unfoldable pub sealInPlaceOf : Session → List ℕ → Outcome
 sealInPlaceOf s b =
     let m = take (length b - 16) b in
-    settle (first (modeNumber (mode s)) (tailNumber (length b))) s b
+    settle (first (modeNumber (mode s)) (tailNumber (length b))) 0 s b
     (taken (tagEnd (encryptEnd s m)) noTag (encryptOut s m ++ tagOut (encryptEnd s m)))
 
 -- ---- opening: decrypt, squeeze the tag and compare; the session stands past the tag either way
 abbrev pub verdict : Bool → Session → List ℕ → List ℕ → Outcome
 verdict true s good bad = taken s noTag good
-verdict false s good bad = refused s 4 bad
+verdict false s good bad = refused s 4 0 bad
 
 unfoldable pub opened : Session → List ℕ → List ℕ → List ℕ → List ℕ → Outcome
 opened s t c good bad = verdict (sameBytes (tagOut (decryptEnd s c)) t) (tagEnd (decryptEnd s c)) good bad
@@ -170,24 +177,24 @@ opened s t c good bad = verdict (sameBytes (tagOut (decryptEnd s c)) t) (tagEnd 
 -- the copying forms zero the whole output
 unfoldable pub openDetachedOf : Session → List ℕ → Tag → List ℕ → Outcome
 openDetachedOf s o t c =
-    settle (first (modeNumber (mode s)) (roomNumber (length o) (length c))) s o
+    settleRoom (modeNumber (mode s)) (length o) (length c) s o
     (opened s (t .bytes) c (decryptOut s c ++ drop (length c) o) (replicate (length o) 0))
 
 unfoldable pub openOf : Session → List ℕ → List ℕ → Outcome
 openOf s o b =
     let c = take (length b - 16) b in
-    settle (first (modeNumber (mode s)) (first (tailNumber (length b)) (roomNumber (length o) (length b - 16)))) s o
+    settleRoom (first (modeNumber (mode s)) (tailNumber (length b))) (length o) (length b - 16) s o
     (opened s (drop (length b - 16) b) c (decryptOut s c ++ drop (length b - 16) o) (replicate (length o) 0))
 
 -- the detached in-place form zeroes its buffer
 unfoldable pub openInPlaceDetachedOf : Session → List ℕ → Tag → Outcome
 openInPlaceDetachedOf s b t =
-    settle (modeNumber (mode s)) s b (opened s (t .bytes) b (decryptOut s b) (replicate (length b) 0))
+    settle (modeNumber (mode s)) 0 s b (opened s (t .bytes) b (decryptOut s b) (replicate (length b) 0))
 
 -- the combined in-place form zeroes all but the last 16 bytes, which keep the received tag
 unfoldable pub openInPlaceOf : Session → List ℕ → Outcome
 openInPlaceOf s b =
     let c = take (length b - 16) b in
     let t = drop (length b - 16) b in
-    settle (first (modeNumber (mode s)) (tailNumber (length b))) s b
+    settle (first (modeNumber (mode s)) (tailNumber (length b))) 0 s b
     (opened s t c (decryptOut s c ++ t) (replicate (length b - 16) 0 ++ t))

@@ -1,7 +1,7 @@
 -- The numbers handed back: a definition for each family, and which of several is given.
 use mathlib.Core.Bool.{Bool, true, false}
-use Prim.Native.Nat.{ℕ, zero, suc, _+_}
-use lib.Dec.{ltb}
+use Prim.Native.Nat.{ℕ, zero, suc, _+_, _-_}
+use lib.Dec.{eqb, ltb}
 use Rattle.xoodyak.specs.declared.cyclist.Mode.{Mode}
 use Rattle.xoodyak.specs.declared.cyclist.Mode.the-variants.{Hash, Keyed}
 use Rattle.xoodyak.specs.Cyclist.{absorbRate}
@@ -21,17 +21,22 @@ abbrev pub modeNumber : Mode → ℕ
 modeNumber Hash = 1
 modeNumber Keyed = 0
 
--- 2: key + 1 + key id + nonce exceeds 44
+-- 2: the key alone exceeds 43; 8: the key fits, but key and key id together exceed 43; 9: only the nonce breaks it
 unfoldable pub keyNumber : ℕ → ℕ → ℕ → ℕ
-keyNumber key id nonce = when (ltb 44 (key + 1 + id + nonce)) 2
+keyNumber key id nonce =
+    first (when (ltb 43 key) 2) (first (when (ltb 43 (key + id)) 8) (when (ltb 44 (key + 1 + id + nonce)) 9))
+
+-- 10: the input of a combined open, or the buffer of a combined in-place call, is under 16
+unfoldable pub tailNumber : ℕ → ℕ
+tailNumber size = when (ltb size 16) 10
 
 -- 3: the output is shorter than its result
 unfoldable pub roomNumber : ℕ → ℕ → ℕ
 roomNumber room result = when (ltb room result) 3
 
--- 3: the input of a combined open, or the buffer of a combined in-place call, is under 16
-unfoldable pub tailNumber : ℕ → ℕ
-tailNumber size = when (ltb size 16) 3
+-- with 3, how many bytes the output lacks
+unfoldable pub missing : ℕ → ℕ → ℕ → ℕ
+missing number room result = when (eqb number 3) (result - room)
 
 -- 5: the rate is 0 or above the session's absorb rate
 unfoldable pub rateNumber : Mode → ℕ → ℕ

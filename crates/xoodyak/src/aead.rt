@@ -12,6 +12,7 @@ use crate::bytes::copy_into;
 use crate::bytes::or_empty;
 use crate::bytes::same_bytes;
 use crate::numbers::first;
+use crate::numbers::missing;
 use crate::numbers::room_number;
 use crate::numbers::tail_number;
 use crate::tag::Tag;
@@ -45,12 +46,12 @@ impl Session {
         let number = first(self.mode_number(), room_number(out.len(), n));
         let mut tag = [0u8; 16];
         if number != 0 {
-            return self.sealed(number, Tag::from_bytes(tag));
+            return self.sealed(number, missing(number, out.len(), n), Tag::from_bytes(tag));
         }
         copy_into(out, m);
         let s = self.encrypt_message(&mut out[..n]);
         let t = s.squeeze_tag(&mut tag);
-        t.sealed(0, Tag::from_bytes(tag))
+        t.sealed(0, 0, Tag::from_bytes(tag))
     }
 
     pub fn aead_encrypt(self, out: &mut [u8], has_bin: bool, bin: &[u8]) -> Answer
@@ -64,7 +65,7 @@ impl Session {
         let room = room_number(out.len(), e);
         let number = first(keyed, room);
         if number != 0 {
-            return self.answer(number);
+            return self.short_answer(number, missing(number, out.len(), e));
         }
         copy_into(out, m);
         let s = self.encrypt_message(&mut out[..n]);
@@ -78,11 +79,11 @@ impl Session {
         let number = self.mode_number();
         let mut tag = [0u8; 16];
         if number != 0 {
-            return self.sealed(number, Tag::from_bytes(tag));
+            return self.sealed(number, 0, Tag::from_bytes(tag));
         }
         let s = self.encrypt_message(in_out);
         let past = s.squeeze_tag(&mut tag);
-        past.sealed(0, Tag::from_bytes(tag))
+        past.sealed(0, 0, Tag::from_bytes(tag))
     }
 
     pub fn aead_encrypt_in_place(self, in_out: &mut [u8]) -> Answer
@@ -113,7 +114,7 @@ impl Session {
         let n = c.len();
         let number = first(self.mode_number(), room_number(out.len(), n));
         if number != 0 {
-            return self.answer(number);
+            return self.short_answer(number, missing(number, out.len(), n));
         }
         copy_into(out, c);
         let s = self.decrypt_message(&mut out[..n]);
@@ -140,7 +141,7 @@ impl Session {
         let room = out.len();
         let number = room_number(room, n);
         if number != 0 {
-            return self.answer(number);
+            return self.short_answer(number, missing(number, room, n));
         }
         copy_into(out, &bin[..n]);
         let s = self.decrypt_message(&mut out[..n]);

@@ -18,6 +18,7 @@ use crate::cyclist::Duplex;
 use crate::cyclist::Mode;
 use crate::numbers::first;
 use crate::numbers::key_number;
+use crate::numbers::missing;
 use crate::numbers::room_number;
 
 // Key, t and the length of t, at the front of 44 bytes; how many.
@@ -217,7 +218,7 @@ impl Session {
         let n = bin.len();
         let number = first(self.mode_number(), room_number(out.len(), n));
         if number != 0 {
-            return self.answer(number);
+            return self.short_answer(number, missing(number, out.len(), n));
         }
         copy_into(out, bin);
         self.encrypt_message(&mut out[..n]).answer(0)
@@ -230,7 +231,7 @@ impl Session {
         let n = bin.len();
         let number = first(self.mode_number(), room_number(out.len(), n));
         if number != 0 {
-            return self.answer(number);
+            return self.short_answer(number, missing(number, out.len(), n));
         }
         copy_into(out, bin);
         self.decrypt_message(&mut out[..n]).answer(0)

@@ -16,16 +16,18 @@ pub struct Session {
     pub duplex: Duplex,
 }
 
-// What a call hands back: the session, and 0 or the number of the refusal.
+// What a call hands back: the session, 0 or the number of the refusal, and with 3 how many bytes the output lacks.
 pub struct Answer {
     pub session: Session,
     pub number: u8,
+    pub missing: usize,
 }
 
 // The same with the tag of what was sealed; a refusal has a tag of zeros.
 pub struct Sealed {
     pub session: Session,
     pub number: u8,
+    pub missing: usize,
     pub tag: Tag,
 }
 
@@ -38,20 +40,33 @@ impl Session {
     }
 
     pub(crate) fn answer(self, number: u8) -> Answer
-        ensures { λ r. ⌜ r ≡ record { session = self; number = number } ⌝ }
+        ensures { λ r. ⌜ r ≡ record { session = self; number = number; missing = 0 } ⌝ }
     {
         Answer {
             session: self,
             number: number,
+            missing: 0,
         }
     }
 
-    pub(crate) fn sealed(self, number: u8, tag: Tag) -> Sealed
-        ensures { λ r. ⌜ r ≡ record { session = self; number = number; tag = tag } ⌝ }
+    // The answer of a call that needs room in an output.
+    pub(crate) fn short_answer(self, number: u8, missing: usize) -> Answer
+        ensures { λ r. ⌜ r ≡ record { session = self; number = number; missing = missing } ⌝ }
+    {
+        Answer {
+            session: self,
+            number: number,
+            missing: missing,
+        }
+    }
+
+    pub(crate) fn sealed(self, number: u8, missing: usize, tag: Tag) -> Sealed
+        ensures { λ r. ⌜ r ≡ record { session = self; number = number; missing = missing; tag = tag } ⌝ }
     {
         Sealed {
             session: self,
             number: number,
+            missing: missing,
             tag: tag,
         }
     }

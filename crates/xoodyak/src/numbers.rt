@@ -1,6 +1,6 @@
 // The numbers of refusals; 0 is success.
 ghost use mathlib.Core.Path.{_≡_};
-ghost use Rattle.xoodyak.specs.Numbers.{first, modeNumber, keyNumber, roomNumber, tailNumber, rateNumber};
+ghost use Rattle.xoodyak.specs.Numbers.{first, modeNumber, keyNumber, roomNumber, missing, tailNumber, rateNumber};
 ghost use Rattle.xoodyak.specs.Calls.{mode};
 use crate::Session;
 use crate::cyclist::Mode;
@@ -11,20 +11,24 @@ pub(crate) fn first(a: u8, b: u8) -> u8
     if a == 0 { b } else { a }
 }
 
-// Each length is tested by itself first, so that no sum of lengths wraps.
+// Each length is tested against what is left, so that no sum of lengths wraps.
 pub(crate) fn key_number(key: usize, id: usize, nonce: usize) -> u8
     ensures { λ r. ⌜ r ≡ keyNumber key id nonce ⌝ }
 {
     if key > 43 {
         return 2;
     }
-    if id > 43 {
-        return 2;
+    let left = 43 - key;
+    if id > left {
+        return 8;
     }
-    if nonce > 43 {
-        return 2;
-    }
-    if key + 1 + id + nonce > 44 { 2 } else { 0 }
+    if nonce > left - id { 9 } else { 0 }
+}
+
+pub(crate) fn tail_number(size: usize) -> u8
+    ensures { λ r. ⌜ r ≡ tailNumber size ⌝ }
+{
+    if size < 16 { 10 } else { 0 }
 }
 
 pub(crate) fn room_number(room: usize, result: usize) -> u8
@@ -33,10 +37,13 @@ pub(crate) fn room_number(room: usize, result: usize) -> u8
     if room < result { 3 } else { 0 }
 }
 
-pub(crate) fn tail_number(size: usize) -> u8
-    ensures { λ r. ⌜ r ≡ tailNumber size ⌝ }
+pub(crate) fn missing(number: u8, room: usize, result: usize) -> usize
+    ensures { λ r. ⌜ r ≡ missing number room result ⌝ }
 {
-    if size < 16 { 3 } else { 0 }
+    if number != 3 {
+        return 0;
+    }
+    if room < result { result - room } else { 0 }
 }
 
 impl Session {

@@ -16,7 +16,7 @@ number c = c .first .ensures ∙ rw (c .before .before .mode-number .ensures, c 
 
 returns : tie.Need-returns
 unfolding keyOf
-returns c = answer-refused _ _ (number (c .before .before)) _ _ _ answerOf _ (c .before .if1 .taken) (c .answer .ensures)
+returns c = answer-refused _ _ (number (c .before .before)) _ _ _ _ answerOf _ (c .before .if1 .taken) (c .answer .ensures)
 
 key-call-requires : tie.Need-key-call-requires
 key-call-requires c κs =
@@ -26,7 +26,7 @@ key-call-requires c κs =
 returns-2 : tie.Need-returns-2
 unfolding keyOf
 returns-2 c =
-    answer-taken _ _ (number (c .before .before .before .before)) _ _ _ answerOf _ (c .before .before .before .if1 .left)
+    answer-taken _ _ (number (c .before .before .before .before)) _ _ _ _ answerOf _ (c .before .before .before .if1 .left)
     (rw (c .answer2 .ensures, c .before .onward .ensures, c .before .before .key-call .ensures, c .before .before .before .before .before .before .before .before .before .or-empty .ensures, c .before .before .before .before .before .before .before .before .or-empty2 .ensures))
 
 pub absorb-key-and-nonce-spec : {M : Type 1} → statement M

@@ -8,7 +8,7 @@ use Rattle.xoodyak.proofs.Session.absorb_more.Tie as tie
 
 returns : tie.Need-returns
 unfolding absorbMoreOf
-returns c = answer-refused _ _ (c .before .before .rate-number .ensures) _ _ _ answerOf _ (c .before .if1 .taken) (c .answer .ensures)
+returns c = answer-refused _ _ (c .before .before .rate-number .ensures) _ _ _ _ answerOf _ (c .before .if1 .taken) (c .answer .ensures)
 
 absorb-more-requires : tie.Need-absorb-more-requires
 absorb-more-requires c κs = rate-fits _ _ (sym (c .before .rate-number .ensures) ∙ c .if1 .left)
@@ -16,7 +16,7 @@ absorb-more-requires c κs = rate-fits _ _ (sym (c .before .rate-number .ensures
 returns-2 : tie.Need-returns-2
 unfolding absorbMoreOf
 returns-2 c =
-    answer-taken _ _ (c .before .before .before .before .rate-number .ensures) _ _ _ answerOf _ (c .before .before .before .if1 .left)
+    answer-taken _ _ (c .before .before .before .before .rate-number .ensures) _ _ _ _ answerOf _ (c .before .before .before .if1 .left)
     (rw (c .answer2 .ensures, c .before .onward .ensures, c .before .before .absorb-more .ensures))
 
 pub absorb-more-spec : {M : Type 1} → statement M

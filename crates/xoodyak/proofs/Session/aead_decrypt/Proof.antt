@@ -11,8 +11,8 @@ use borrow.Author.Needs.{needs}
 use Rattle.xoodyak.specs.declared.Session.{Session}
 use Rattle.xoodyak.specs.Numbers.{first, modeNumber, roomNumber, tailNumber}
 use Rattle.xoodyak.specs.Calls.{Outcome, answerOf, mode, verdict, openOf}
-use Rattle.xoodyak.proofs.Settle.{room-fits}
-use Rattle.xoodyak.proofs.Sealing.{long, three-refused, three-last, open-refused, relaid, zeroed-whole, open-copy, same, differs}
+use Rattle.xoodyak.proofs.Settle.{room-fits, before-room}
+use Rattle.xoodyak.proofs.Sealing.{long, earlier, later, open-refused, relaid, zeroed-whole, open-copy, same, differs}
 use Rattle.xoodyak.proofs.Session.aead_decrypt.Statement.{statement}
 use Rattle.xoodyak.proofs.Session.aead_decrypt.Tie as tie
 
@@ -37,26 +37,25 @@ tagged : (d : tie.Else1) → 16 ≤ length (I (d .before))
 tagged d = long (S (d .before)) _ (d .if1 .left) _ (short (d .before))
 
 -- the second number, and that the result has room where it is 0
-number : (e : tie.After-room-number) → e .room-number .result ≡ first (modeNumber (mode (S (e .before .before)))) (first (tailNumber (length (I (e .before .before)))) (roomNumber (length (O (e .before .before))) (N (e .before .before))))
+number : (e : tie.After-room-number) → e .room-number .result ≡ first (first (modeNumber (mode (S (e .before .before)))) (tailNumber (length (I (e .before .before))))) (roomNumber (length (O (e .before .before))) (N (e .before .before)))
 number e = let d = e .before .before in
-    three-last (d .first .result) (modeNumber (mode (S d))) (tailNumber (length (I d))) _ (short d) _ (e .before .if1 .left) (e .room-number .ensures)
+    later (d .first .result) _ _ (short d) _ (e .before .if1 .left) (e .room-number .ensures)
 
 room : (d : tie.Else2) → N (d .before .before .before) ≤ length (O (d .before .before .before))
 room d = room-fits _ _ (sym (d .before .room-number .ensures) ∙ d .if2 .left)
 
 returns : tie.Need-returns
 returns c = let d = c .before .before in
-    let j = three-refused (d .first .result) (modeNumber (mode (S d))) (tailNumber (length (I d))) (roomNumber (length (O d)) (N d)) (short d) (c .before .if1 .taken) in
-    let e = open-refused (S d) (O d) (I d) _ j (c .before .if1 .taken) in
+    let e = open-refused (S d) (O d) (I d) _ 0 (earlier (d .first .result) _ _ (short d) (c .before .if1 .taken)) (before-room (mode (S d)) (length (I d)) _ _ _ (short d)) (c .before .if1 .taken) in
     (c .answer .ensures ∙ ap answerOf e, ap (λ (x : Outcome). x .bytes) e)
 
 sub-n : tie.Need-sub-n
 sub-n c = let h = tagged c in search needs
 
 returns-2 : tie.Need-returns-2
-returns-2 c = let d = c .before .before .before .before in
-    let e = open-refused (S d) (O d) (I d) _ (number (c .before .before)) (c .before .if2 .taken) in
-    (c .answer2 .ensures ∙ ap answerOf e, ap (λ (x : Outcome). x .bytes) e)
+returns-2 c = let d = c .before .before .before .before .before in
+    let e = open-refused (S d) (O d) (I d) _ _ (number (c .before .before .before)) (c .before .missing .ensures) (c .before .before .if2 .taken) in
+    (c .short-answer .ensures ∙ ap answerOf e, ap (λ (x : Outcome). x .bytes) e)
 
 slice-aggregate-copy-into : tie.Need-slice-aggregate-copy-into
 slice-aggregate-copy-into c = sym (length-take-le _ _ (omega arith))
@@ -102,7 +101,7 @@ outcome g = let d = asked g in
 
 returns-3 : tie.Need-returns-3
 returns-3 c = let e = same _ _ _ _ _ (c .before .if3 .taken) (outcome (c .before .before)) in
-    (c .answer3 .ensures ∙ ap answerOf e, ap (λ (x : Outcome). x .bytes) e)
+    (c .answer2 .ensures ∙ ap answerOf e, ap (λ (x : Outcome). x .bytes) e)
 
 -- what the buffer then holds is as long as the output
 whole : (g : tie.After-same-bytes) → length (left g) ≡ length (O (asked g))
@@ -118,7 +117,7 @@ returns-4 : tie.Need-returns-4
 returns-4 c = let g = c .before .before .before .before .before .before in
     let e = differs _ _ _ _ _ (c .before .before .before .before .before .if3 .left) (outcome g) in
     let k = c .before .before .before .clear in
-    (c .answer4 .ensures ∙ ap answerOf e, zeroed-whole _ (left g) (k .last .0) (whole g) (k .ensures) ∙ ap (λ (x : Outcome). x .bytes) e)
+    (c .answer3 .ensures ∙ ap answerOf e, zeroed-whole _ (left g) (k .last .0) (whole g) (k .ensures) ∙ ap (λ (x : Outcome). x .bytes) e)
 
 pub aead-decrypt-spec : {M : Type 1} → statement M
 aead-decrypt-spec =
@@ -130,6 +129,7 @@ aead-decrypt-spec =
     (λ c κs. search needs)
     returns
     sub-n
+    (λ c κs. search needs)
     (λ c κs. search needs)
     (λ c κs. search needs)
     returns-2

@@ -11,7 +11,7 @@ use Rattle.xoodyak.specs.declared.Session.{Session}
 use Rattle.xoodyak.specs.Cyclist.{given}
 use Rattle.xoodyak.specs.Numbers.{first, modeNumber, roomNumber}
 use Rattle.xoodyak.specs.Calls.{Outcome, answerOf, mode, verdict, openDetachedOf}
-use Rattle.xoodyak.proofs.Settle.{settle-refused}
+use Rattle.xoodyak.proofs.Settle.{room-refused}
 use Rattle.xoodyak.proofs.Sealing.{fits, relaid, open-detached, same, differs}
 use Rattle.xoodyak.proofs.Session.aead_decrypt_detached.Statement.{statement}
 use Rattle.xoodyak.proofs.Session.aead_decrypt_detached.Tie as tie
@@ -39,10 +39,10 @@ tag-size d = search needs
 
 returns : tie.Need-returns
 unfolding openDetachedOf
-returns c = let d = c .before .before in
+returns c = let d = c .before .before .before in
     let tag = d .before .before .before .before .before .before .args .tag in
-    let e = sym (settle-refused _ _ (number d) (S d) (O d) _ (c .before .if1 .taken)) ∙ ap (openDetachedOf (S d) (O d) tag) (d .before .before .before .or-empty .ensures) in
-    (c .answer .ensures ∙ ap answerOf e, ap (λ (x : Outcome). x .bytes) e)
+    let e = room-refused _ _ _ _ _ (number d) (c .before .missing .ensures) (S d) (O d) _ (c .before .before .if1 .taken) ∙ ap (openDetachedOf (S d) (O d) tag) (d .before .before .before .or-empty .ensures) in
+    (c .short-answer .ensures ∙ ap answerOf e, ap (λ (x : Outcome). x .bytes) e)
 
 copy-into-requires : tie.Need-copy-into-requires
 copy-into-requires c κs = let h = room (c .before) in omega arith
@@ -88,19 +88,20 @@ outcome g = let d = asked g in
 
 returns-2 : tie.Need-returns-2
 returns-2 c = let e = same _ _ _ _ _ (c .before .if2 .taken) (outcome (c .before .before)) in
-    (c .answer2 .ensures ∙ ap answerOf e, ap (λ (x : Outcome). x .bytes) e)
+    (c .answer .ensures ∙ ap answerOf e, ap (λ (x : Outcome). x .bytes) e)
 
 returns-3 : tie.Need-returns-3
 returns-3 c = let g = c .before .before .before .before .before .before in
     let e = differs _ _ _ _ _ (c .before .before .before .before .before .if2 .left) (outcome g) in
     let k = c .before .before .before .clear in
     let n = relaid (length (M (asked g))) (decrypted g .decrypt-message .last .1 .0) (copied g .copy-into .last .0) (O (asked g)) (room (copied g .before .before)) (decrypted g .decrypt-message .kept .1 .0) (copied g .copy-into .kept .0) in
-    (c .answer3 .ensures ∙ ap answerOf e, k .ensures ∙ ap (λ (i : ℕ). replicate i 0) n ∙ ap (λ (x : Outcome). x .bytes) e)
+    (c .answer2 .ensures ∙ ap answerOf e, k .ensures ∙ ap (λ (i : ℕ). replicate i 0) n ∙ ap (λ (x : Outcome). x .bytes) e)
 
 pub aead-decrypt-detached-spec : {M : Type 1} → statement M
 aead-decrypt-detached-spec =
     tie.close
     (tie.spec
+    (λ c κs. search needs)
     (λ c κs. search needs)
     (λ c κs. search needs)
     (λ c κs. search needs)

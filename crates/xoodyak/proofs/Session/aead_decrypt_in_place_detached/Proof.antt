@@ -18,7 +18,7 @@ returns : tie.Need-returns
 unfolding openInPlaceDetachedOf
 returns c = let d = c .before .before in
     let a = d .before .before .args in
-    call-refused _ _ (d .mode-number .ensures) (a .self) (now (a .in-out)) _ answerOf _ (c .before .if1 .taken) (c .answer .ensures)
+    call-refused _ _ (d .mode-number .ensures) _ (a .self) (now (a .in-out)) _ answerOf _ (c .before .if1 .taken) (c .answer .ensures)
 
 same-bytes-requires : tie.Need-same-bytes-requires
 same-bytes-requires c κs = c .before .before .before .before .squeeze-tag .kept .1 .0 ∙ sym (tag-size (c .before .before .before .before .before .before .before .before .before .before .before .before .before))

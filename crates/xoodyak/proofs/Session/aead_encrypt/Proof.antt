@@ -10,7 +10,7 @@ use borrow.Author.Needs.{needs}
 use Rattle.xoodyak.specs.declared.Session.{Session}
 use Rattle.xoodyak.specs.Numbers.{first, modeNumber, roomNumber}
 use Rattle.xoodyak.specs.Calls.{Outcome, answerOf, mode, taken, sealOf}
-use Rattle.xoodyak.proofs.Settle.{settle-refused, copied-front}
+use Rattle.xoodyak.proofs.Settle.{room-refused, copied-front}
 use Rattle.xoodyak.proofs.Sealing.{fits, seal-copy}
 use Rattle.xoodyak.proofs.Session.aead_encrypt.Statement.{statement}
 use Rattle.xoodyak.proofs.Session.aead_encrypt.Tie as tie
@@ -34,9 +34,9 @@ room d = fits (S (d .before)) _ (d .if1 .left) _ _ (number (d .before))
 
 returns : tie.Need-returns
 unfolding sealOf
-returns c = let d = c .before .before in
-    let e = sym (settle-refused _ _ (number d) (S d) (O d) _ (c .before .if1 .taken)) ∙ ap (sealOf (S d) (O d)) (d .before .before .before .or-empty .ensures) in
-    (c .answer .ensures ∙ ap answerOf e, ap (λ (x : Outcome). x .bytes) e)
+returns c = let d = c .before .before .before in
+    let e = room-refused _ _ _ _ _ (number d) (c .before .missing .ensures) (S d) (O d) _ (c .before .before .if1 .taken) ∙ ap (sealOf (S d) (O d)) (d .before .before .before .or-empty .ensures) in
+    (c .short-answer .ensures ∙ ap answerOf e, ap (λ (x : Outcome). x .bytes) e)
 
 copy-into-requires : tie.Need-copy-into-requires
 copy-into-requires c κs = let h = room (c .before) in omega arith
@@ -74,7 +74,7 @@ returns-2 c = let p = c .before .before .before in
     let w = r .copy-into in
     let e = seal-copy (S d) (f .result) (t .result) (take (length (M d)) (w .last .0)) (f .last .1 .0) (t .last .1 .0) (f .ensures .0) (f .ensures .1) (t .ensures .0) (t .ensures .1) _ (r .before .before .if1 .left) (O d) (M d) (w .last .0) (number d) (w .ensures) refl (front q)
     ∙ ap (sealOf (S d) (O d)) (d .before .before .before .or-empty .ensures) in
-    (c .answer2 .ensures ∙ ap answerOf e, ap (λ (x : Outcome). x .bytes) e)
+    (c .answer .ensures ∙ ap answerOf e, ap (λ (x : Outcome). x .bytes) e)
 
 pub aead-encrypt-spec : {M : Type 1} → statement M
 aead-encrypt-spec =
@@ -82,6 +82,7 @@ aead-encrypt-spec =
     (tie.spec
     (λ c κs. search needs)
     (λ c. search needs)
+    (λ c κs. search needs)
     (λ c κs. search needs)
     (λ c κs. search needs)
     (λ c κs. search needs)

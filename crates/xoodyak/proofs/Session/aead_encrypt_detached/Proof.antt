@@ -10,7 +10,7 @@ use borrow.Author.Needs.{needs}
 use Rattle.xoodyak.specs.declared.Session.{Session}
 use Rattle.xoodyak.specs.Numbers.{first, modeNumber, roomNumber}
 use Rattle.xoodyak.specs.Calls.{Outcome, sealedOf, mode, sealDetachedOf}
-use Rattle.xoodyak.proofs.Settle.{settle-refused}
+use Rattle.xoodyak.proofs.Settle.{room-refused}
 use Rattle.xoodyak.proofs.Sealing.{fits, seal-detached}
 use Rattle.xoodyak.proofs.Session.aead_encrypt_detached.Statement.{statement}
 use Rattle.xoodyak.proofs.Session.aead_encrypt_detached.Tie as tie
@@ -34,8 +34,8 @@ room d = fits (S (d .before)) _ (d .if1 .left) _ _ (number (d .before))
 
 returns : tie.Need-returns
 unfolding sealDetachedOf
-returns c = let d = c .before .before .before in
-    let e = sym (settle-refused _ _ (number d) (S d) (O d) _ (c .before .before .if1 .taken)) ∙ ap (sealDetachedOf (S d) (O d)) (d .before .before .before .or-empty .ensures) in
+returns c = let d = c .before .before .before .before in
+    let e = room-refused _ _ _ _ _ (number d) (c .before .before .missing .ensures) (S d) (O d) _ (c .before .before .before .if1 .taken) ∙ ap (sealDetachedOf (S d) (O d)) (d .before .before .before .or-empty .ensures) in
     (c .sealed .ensures ∙ rw (c .before .from-bytes .ensures) (ap sealedOf e), ap (λ (x : Outcome). x .bytes) e)
 
 copy-into-requires : tie.Need-copy-into-requires
@@ -65,6 +65,7 @@ pub aead-encrypt-detached-spec : {M : Type 1} → statement M
 aead-encrypt-detached-spec =
     tie.close
     (tie.spec
+    (λ c κs. search needs)
     (λ c κs. search needs)
     (λ c κs. search needs)
     (λ c κs. search needs)

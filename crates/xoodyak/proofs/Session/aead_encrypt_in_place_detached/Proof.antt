@@ -12,7 +12,7 @@ returns : tie.Need-returns
 unfolding sealInPlaceDetachedOf
 returns c = let d = c .before .before .before in
     let a = d .before .before .args in
-    call-refused _ _ (d .mode-number .ensures) (a .self) (now (a .in-out)) _ sealedOf _ (c .before .before .if1 .taken) (c .sealed .ensures ∙ rw (c .before .from-bytes .ensures))
+    call-refused _ _ (d .mode-number .ensures) _ (a .self) (now (a .in-out)) _ sealedOf _ (c .before .before .if1 .taken) (c .sealed .ensures ∙ rw (c .before .from-bytes .ensures))
 
 returns-2 : tie.Need-returns-2
 returns-2 c = let p = c .before .before .before in

@@ -1,13 +1,13 @@
 -- Refused with nothing touched; otherwise the message is copied to the front of the output and decrypted there, and what lies past it stays.
-use mathlib.Core.Path.{_≡_, sym, _∙_}
+use mathlib.Core.Path.{_≡_, sym, ap, _∙_}
 use Prim.Native.Nat.{_≤_}
 use native.Mathlib.Omega.{arith}
 use denote.Ref.{now}
 use lib.ListN.{length}
 use lib.Seq.{length-take-le}
 use Rattle.xoodyak.specs.Numbers.{first, modeNumber, roomNumber}
-use Rattle.xoodyak.specs.Calls.{mode, answerOf, decryptOf}
-use Rattle.xoodyak.proofs.Settle.{call-taken, call-refused, second-zero, room-fits, copied-front, copied-rest}
+use Rattle.xoodyak.specs.Calls.{Outcome, mode, answerOf, decryptOf}
+use Rattle.xoodyak.proofs.Settle.{call-taken, room-refused, second-zero, room-fits, copied-front, copied-rest}
 use borrow.Author.Needs.{needs}
 use Rattle.xoodyak.proofs.Session.decrypt.Statement.{statement}
 use Rattle.xoodyak.proofs.Session.decrypt.Tie as tie
@@ -24,7 +24,9 @@ room c =
 
 returns : tie.Need-returns
 unfolding decryptOf
-returns c = call-refused _ _ (number (c .before .before)) _ _ _ answerOf _ (c .before .if1 .taken) (c .answer .ensures)
+returns c = let d = c .before .before .before in
+    let e = room-refused _ _ _ _ _ (number d) (c .before .missing .ensures) _ _ _ (c .before .before .if1 .taken) in
+    (c .short-answer .ensures ∙ ap answerOf e, ap (λ (x : Outcome). x .bytes) e)
 
 copy-into-requires : tie.Need-copy-into-requires
 copy-into-requires c κs = room (c .before)
@@ -45,9 +47,9 @@ returns-2 c =
     let w = c .before .before .before .before .before .before .before .copy-into in
     let f = c .before .before .before .decrypt-message in
     let front = copied-front m o (w .last .0) (w .ensures) in
-    call-taken _ _ (number (c .before .before .before .before .before .before .before .before .before .before)) _ _ _ answerOf _ _ (c .before .before .before .before .before .before .before .before .before .if1 .left)
-    (rw (c .answer2 .ensures, f .ensures .0, front))
+    call-taken _ _ (number (c .before .before .before .before .before .before .before .before .before .before)) _ _ _ _ answerOf _ _ (c .before .before .before .before .before .before .before .before .before .if1 .left)
+    (rw (c .answer .ensures, f .ensures .0, front))
     (rw (f .ensures .1, front, copied-rest m o (w .last .0) (w .ensures)))
 
 pub decrypt-spec : {M : Type 1} → statement M
-decrypt-spec = tie.close (tie.spec (λ c κs. search needs) (λ c κs. search needs) (λ c κs. search needs) (λ c κs. search needs) returns copy-into-requires slice-relend-prefix-decrypt-message slice-aggregate-decrypt-message (λ c κs. search needs) (λ c κs. search needs) (λ c. search needs) returns-2)
+decrypt-spec = tie.close (tie.spec (λ c κs. search needs) (λ c κs. search needs) (λ c κs. search needs) (λ c κs. search needs) (λ c κs. search needs) returns copy-into-requires slice-relend-prefix-decrypt-message slice-aggregate-decrypt-message (λ c κs. search needs) (λ c κs. search needs) (λ c. search needs) returns-2)

@@ -16,7 +16,7 @@ number c = c .key-number .ensures ∙ rw (c .before .before .or-empty .ensures, 
 
 returns : tie.Need-returns
 unfolding newOf
-returns c = answer-refused _ _ (number (c .before .before .before)) _ _ _ answerOf _ (c .before .if1 .taken) (rw (c .answer .ensures, c .before .before .hash .ensures))
+returns c = answer-refused _ _ (number (c .before .before .before)) _ _ _ _ answerOf _ (c .before .if1 .taken) (rw (c .answer .ensures, c .before .before .hash .ensures))
 
 key-call-requires : tie.Need-key-call-requires
 key-call-requires c κs = key-fits _ _ _ (sym (c .before .before .before .key-number .ensures) ∙ c .before .if1 .left)
@@ -24,7 +24,7 @@ key-call-requires c κs = key-fits _ _ _ (sym (c .before .before .before .key-nu
 returns-2 : tie.Need-returns-2
 unfolding newOf
 returns-2 c =
-    answer-taken _ _ (number (c .before .before .before .before .before .before)) _ _ _ answerOf _ (c .before .before .before .before .if1 .left)
+    answer-taken _ _ (number (c .before .before .before .before .before .before)) _ _ _ _ answerOf _ (c .before .before .before .before .if1 .left)
     (rw (c .answer2 .ensures, c .before .onward .ensures, c .before .before .key-call .ensures, c .before .before .before .fresh .ensures, c .before .before .before .before .before .before .before .before .or-empty .ensures, c .before .before .before .before .before .before .before .or-empty2 .ensures))
 
 pub new-spec : {M : Type 1} → statement M
