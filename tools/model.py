@@ -112,8 +112,8 @@ def first_of(*numbers):
 
 
 class Session:
-    def __init__(self, mode="hash", phase="up", state=0):
-        self.mode, self.phase, self.state = mode, phase, state
+    def __init__(self, rule, mode="hash", phase="up", state=0):
+        self.rule, self.mode, self.phase, self.state = rule, mode, phase, state
 
     def up(self, n, cu):
         self.phase = "up"
@@ -145,10 +145,15 @@ class Session:
             out += self.up(size, 0x00)
         return out
 
+    def message_blocks(self, message):
+        """An empty message does nothing under the crate rule, and runs one empty block under the specification's."""
+        empty = [b""] if self.rule == "spec" else []
+        return blocks(message, SQUEEZE_RATE["keyed"]) or empty
+
     def crypt(self, message, decrypting):
         out = b""
         cu = 0x80
-        for block in blocks(message, SQUEEZE_RATE["keyed"]):
+        for block in self.message_blocks(message):
             answer = xored(block, self.up(len(block), cu))
             self.down(answer if decrypting else block, 0x00)
             out += answer
@@ -228,8 +233,7 @@ class Session:
         self.back_up(cu)
 
     def back_encrypt(self, plaintext):
-        first_and_later = blocks(plaintext, SQUEEZE_RATE["keyed"])
-        for i, block in reversed(list(enumerate(first_and_later))):
+        for i, block in reversed(list(enumerate(self.message_blocks(plaintext)))):
             self.back_down(block, 0x00)
             self.back_up(0x80 if i == 0 else 0x00)
 
@@ -343,7 +347,7 @@ def read_one_of(*words):
 
 
 read_tag, read_state, read_byte = read_exactly(TAG), read_exactly(48), read_exactly(1)
-read_mode, read_phase = read_one_of("hash", "keyed"), read_one_of("up", "down")
+read_mode, read_phase, read_rule = read_one_of("hash", "keyed"), read_one_of("up", "down"), read_one_of("crate", "spec")
 KEY_WORDS = [read_bytes, read_optional, read_optional, read_optional]
 BACK_FORMS = {
     "absorb": [read_bytes], "absorb_more": [read_bytes, read_number],
@@ -372,12 +376,14 @@ def unwritten(n):
 
 
 class Runner:
-    """Holds a session and a Xoodoo state; `answer` takes a line's bytes and gives its answer, None for none."""
+    """Holds a session, the rule of those to be made, and a Xoodoo state; `answer` takes a line's bytes and gives its answer, None for none."""
 
     def __init__(self):
-        self.session = Session()
+        self.rule = "crate"
+        self.session = Session(self.rule)
         self.xoodoo = 0
         self.forms = {
+            "rule": (None, self.set_or_show_rule),
             "hash": ([], self.hash),
             "new": (KEY_WORDS, self.new),
             "key": (KEY_WORDS, lambda *arguments: self.session.key(*arguments)),
@@ -424,6 +430,8 @@ class Runner:
             if name not in self.forms:
                 raise ValueError
             readers, call = self.forms[name]
+            if name == "rule":
+                readers = [read_rule] if words else []
             if name == "back":
                 if len(words) < 2 or words[1] not in BACK_FORMS:
                     raise ValueError
@@ -434,15 +442,21 @@ class Runner:
         answer = call(*arguments)
         return " ".join(map(show, answer)) if isinstance(answer, tuple) else show(answer)
 
+    def set_or_show_rule(self, rule=None):
+        if rule is None:
+            return self.session.rule
+        self.rule = rule
+        return 0
+
     def hash(self):
-        self.session = Session()
+        self.session = Session(self.rule)
         return 0
 
     def new(self, key, nonce, key_id, counter):
-        self.session = Session("keyed")
+        self.session = Session(self.rule, "keyed")
         number = self.session.key(key, key_id, nonce, counter)
         if number:
-            self.session = Session()
+            self.session = Session(self.rule)
         return number
 
     def absorb(self, data):
@@ -450,7 +464,7 @@ class Runner:
         return 0
 
     def set(self, mode, phase, state):
-        self.session = Session(mode, phase, at_byte(0, state))
+        self.session = Session(self.session.rule, mode, phase, at_byte(0, state))
         return 0
 
     # Encryption and sealing. A refused call answers its buffer as it was; bytes past the result stay.

@@ -888,13 +888,13 @@ class StoredScript(Script):
             else:
                 calls.append(((kind, n), (kind, n)))
         if mode == "keyed":
-            for form in FORMS:
-                message = self.bytes(pick.choice(LENGTHS))
-                calls.append((seal_line(form, message), ("seal", word(message))))
-            for name in ["encrypt", "encrypt_in_place"]:
-                message = self.data(pick.choice(LENGTHS))
-                length = 0 if message == "." else len(message) // 2
-                calls.append(((name, length, message) if name == "encrypt" else (name, message), ("encrypt", message)))
+            for length in [0, pick.choice(LENGTHS)]:
+                for form in FORMS:
+                    message = self.bytes(length)
+                    calls.append((seal_line(form, message), ("seal", word(message))))
+                for name in ["encrypt", "encrypt_in_place"]:
+                    message = self.data(length)
+                    calls.append(((name, length, message) if name == "encrypt" else (name, message), ("encrypt", message)))
             for nonce, counter in [("-", "."), (self.data(5), self.data(3)), ("-0a", "-")]:
                 key_words = (self.data(pick.randrange(17)), pick.choice(["-", ".", self.data(16)]), nonce, counter)
                 calls.append((("key", *key_words), ("key", *key_words)))
@@ -907,8 +907,8 @@ class StoredScript(Script):
 
     def decryptions(self):
         """Decryptions of random bytes, as forward lines; what undoes one is the encryption of what it recovered."""
-        n, m = self.random.choice(LENGTHS), self.random.choice(LENGTHS)
-        return [(("decrypt", n, self.data(n)), None), (("decrypt_in_place", self.data(m)), None)]
+        lengths = [0, self.random.choice(LENGTHS)]
+        return [(("decrypt", n, self.data(n)), None) for n in lengths] + [(("decrypt_in_place", self.data(n)), None) for n in lengths]
 
     def run(self, calls):
         """Runs the calls; gives the phase before each, and the calls with every word that walks them back."""
@@ -921,7 +921,8 @@ class StoredScript(Script):
             done.append((forward, back or ("encrypt", out)))
         return phases, done
 
-    def walks(self):
+    def walks(self, rule):
+        self.ask("rule", rule)
         self.note("from the real end to the real start")
         for mode in ["hash", "keyed"]:
             for prepare in ["absorb", "squeeze"]:
@@ -935,11 +936,14 @@ class StoredScript(Script):
                 self.walk_back(calls, phases)
                 self.expect(start, "state")
         self.note("from random final bytes to their start, and forward again")
+        self.begin("hash")
         for mode in ["hash", "keyed"]:
             for phase in ["up", "down"] * 2:
                 calls = self.back_calls(mode)
                 # A run from any bytes shows the phases.
                 dry = Runner()
+                dry.answer(b"rule " + rule.encode())
+                dry.answer(b"hash")
                 dry.answer(("set %s %s %s" % (mode, phase, "00" * 48)).encode())
                 phases = []
                 for forward, _ in calls:
@@ -993,6 +997,106 @@ class StoredScript(Script):
                      "back up seal -", "back up encrypt 1 00", "back up decrypt 00", "back up hash"]:
             self.expect("bad", line.encode())
         self.ask("state")
+
+    # The rule for empty messages.
+
+    def rules(self):
+        self.note("the rule of a session: that of the last rule line when it was made; set keeps it")
+        self.begin("keyed")
+        self.expect("crate", "rule")
+        self.expect("0", "rule", "spec")
+        self.expect("crate", "rule")
+        for words, number in [(("hash",), 0), (("new", self.data(16), "-", "-", "-"), 0), (("new", self.data(44), "-", "-", "-"), 2),
+                              (("set", "keyed", "down", self.data(48)), 0)]:
+            self.expect(number, *words)
+            self.expect("spec", "rule")
+        self.expect("0", "rule", "crate")
+        self.expect("spec", "rule")
+        self.expect("0", "ratchet")
+        self.expect("spec", "rule")
+        self.expect("2", "new", self.data(44), "-", "-", "-")
+        self.expect("crate", "rule")
+        for line in ["rule ", "rule crate ", "rule Crate", "rule specification", "rule crate spec", "Rule", "rules"]:
+            self.expect("bad", line.encode())
+        self.expect("crate", "rule")
+        self.note("every form with empty and other messages under both rules, from both phases, and walked back")
+        start = ("new", self.data(16), self.data(16), "-", "-")
+        for prepare in [("squeeze", 3), ("absorb", self.data(5))]:
+            for length in [0, 1, 24, 25, 60]:
+                message = self.bytes(length)
+                ends = []
+                for rule in ["crate", "spec"]:
+                    self.expect("0", "rule", rule)
+                    ends.append(self.message_forms(start, prepare, message))
+                if (ends[0] == ends[1]) != (length > 0):
+                    stop("the rules part at %d bytes" % length)
+        self.note("an absent message is an empty one, under the specification's rule too")
+        self.expect("0", "rule", "spec")
+        for words in [("aead_encrypt_detached", 0), ("aead_encrypt", 16), ("aead_decrypt_detached", 0, self.data(16))]:
+            answers = set()
+            for absent in [".", "-", "-0a0b"]:
+                self.ask(*start)
+                answers.add((self.ask(*words, absent), self.ask("state")))
+            if len(answers) != 1:
+                stop("an absent message is no empty one: %s" % words[0])
+        self.note("Hash sessions refuse an empty message under the specification's rule too")
+        self.begin("hash")
+        for words in [("encrypt", 0, "."), ("decrypt", 0, "."), ("encrypt_in_place", "."), ("decrypt_in_place", ".")]:
+            self.expect("1 .", *words)
+        self.expect("1", "back", "up", "encrypt", ".")
+        self.expect("hash up " + word(bytes(48)), "state")
+        self.note("a published value: key and nonce 00 to 0f, no associated data, no plaintext")
+        self.expect("0", "new", word(bytes(range(16))), "-", "-", "-")
+        self.ask("absorb", word(bytes(range(16))))
+        self.ask("absorb", ".")
+        self.expect("0 .", "encrypt", 0, ".")
+        if not self.ask("squeeze", 16).startswith("0 4bf0e393144cb58069fc1febca"):
+            stop("the published value is another one")
+        self.expect("0", "rule", "crate")
+
+    def message_forms(self, start, prepare, message):
+        """The message encrypted and sealed in every form, recovered in every form, and walked back; gives what was sealed."""
+        length = len(message)
+
+        def begin():
+            self.ask(*start)
+            self.ask(*prepare)
+            return self.ask("state")
+
+        def undo(before, *back):
+            self.expect("0", "back", before.split(" ")[1], *back)
+            self.expect(before, "state")
+
+        encrypted, sealed, ends = set(), set(), set()
+        for words in [("encrypt", length), ("encrypt_in_place",)]:
+            before = begin()
+            encrypted.add(self.ask(*words, word(message)).split(" ")[1])
+            ends.add(self.ask("state"))
+            undo(before, "encrypt", word(message))
+        (ciphertext,), (end,) = encrypted, ends
+        for words in [("decrypt", length), ("decrypt_in_place",)]:
+            before = begin()
+            self.expect("0 " + word(message), *words, ciphertext)
+            self.expect(end, "state")
+            undo(before, "encrypt", word(message))
+        ends = set()
+        for form in FORMS:
+            before = begin()
+            sealed.add(sealed_of(self.ask(*seal_line(form, message))))
+            ends.add(self.ask("state"))
+            undo(before, "seal", word(message))
+        ((ciphertext, tag),), (end,) = sealed, ends
+        for form in FORMS:
+            before = begin()
+            self.expect(opened_answer(form, message, tag), *open_line(form, ciphertext, tag))
+            self.expect(end, "state")
+            undo(before, "seal", word(message))
+            before = begin()
+            wrong = flipped(tag, self.random.randrange(128))
+            self.expect(mismatch_answer(form, length, wrong), *open_line(form, ciphertext, wrong))
+            self.expect(end, "state")
+            undo(before, "seal", word(message))
+        return ciphertext, tag, end
 
     # Which part was too long, and by how much an output is too short.
 
@@ -1101,8 +1205,12 @@ class StoredScript(Script):
         if layer in ("aead", "all"):
             self.aead()
         if layer == "all":
-            self.walks()
+            self.walks("crate")
             self.back_each()
+            self.rules()
+            self.walks("spec")
+            self.ask("rule", "crate")
+            self.begin("hash")
             self.lengths_refused()
         shown = self.differences(layer)
         self.note("the last line has no line feed")

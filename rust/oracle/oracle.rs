@@ -2,7 +2,8 @@
 //
 // Lines that the original has no call for, or where the port differs from it on purpose, are answered `unsupported`
 // and change nothing. With `--outside` the latter are put to the original all the same, to show what it does
-// (`panic` where it panics).
+// (`panic` where it panics). The original has the crate rule only: the lines of a session that was made under the
+// specification's rule are `unsupported` as well.
 use std::io::{self, BufRead, Write};
 use std::panic::{catch_unwind, AssertUnwindSafe};
 use xoodyak::{Xoodoo, XoodyakAny, XoodyakCommon, XoodyakError, XoodyakHash, XoodyakKeyed, XoodyakTag};
@@ -125,6 +126,9 @@ struct Runner {
     session: XoodyakAny,
     xoodoo: Xoodoo,
     outside: bool,
+    // Whether sessions are made under the specification's rule, and whether the present one was.
+    makes_spec: bool,
+    is_spec: bool,
 }
 
 impl Runner {
@@ -356,12 +360,29 @@ impl Runner {
         })
     }
 
+    fn answer_by_rule(&mut self, line: &str) -> Option<String> {
+        let name = line.split(' ').next()?;
+        let answer = match line {
+            "rule" => "crate".to_string(),
+            "rule crate" | "rule spec" => {
+                self.makes_spec = line == "rule spec";
+                return Some("0".to_string());
+            }
+            _ => self.answer(line)?,
+        };
+        if matches!(name, "hash" | "new") {
+            self.is_spec = self.makes_spec;
+        }
+        let of_session = name != "verify" && !name.starts_with("x_");
+        Some(if self.is_spec && of_session { UNSUPPORTED.to_string() } else { answer })
+    }
+
     fn answer_or_panic(&mut self, line: &str) -> Option<String> {
         if !self.outside {
-            return self.answer(line);
+            return self.answer_by_rule(line);
         }
         let before = self.clone();
-        catch_unwind(AssertUnwindSafe(|| self.answer(line))).unwrap_or_else(|_| {
+        catch_unwind(AssertUnwindSafe(|| self.answer_by_rule(line))).unwrap_or_else(|_| {
             *self = before;
             Some("panic".to_string())
         })
@@ -380,7 +401,7 @@ fn main() -> io::Result<()> {
     if outside {
         std::panic::set_hook(Box::new(|_| {}));
     }
-    let mut runner = Runner { session: fresh_hash(), xoodoo: Xoodoo::default(), outside };
+    let mut runner = Runner { session: fresh_hash(), xoodoo: Xoodoo::default(), outside, makes_spec: false, is_spec: false };
     let mut input = io::BufReader::with_capacity(1 << 16, io::stdin().lock());
     let mut output = io::BufWriter::with_capacity(1 << 16, io::stdout().lock());
     let mut line = Vec::new();

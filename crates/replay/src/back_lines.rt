@@ -27,14 +27,17 @@ fn before(s: Session, p: Phase, b: Before) -> Answer {
         return Answer {
             session: s,
             number: b.number,
+            missing: 0,
         };
     }
     let d = s.duplex;
     let st = b.st;
     let mode = d.mode;
+    let rule = s.rule;
     Answer {
-        session: session(st, mode, p),
+        session: session(st, mode, p, rule),
         number: 0,
+        missing: 0,
     }
 }
 
@@ -42,28 +45,32 @@ pub fn absorb(s: Session, p: Phase, bin: &[u8]) -> Answer {
     let d = s.duplex;
     let st = d.st;
     let mode = d.mode;
-    before(s, p, walkback::absorb(st, mode, p, bin))
+    let rule = s.rule;
+    before(s, p, walkback::absorb(st, rule, mode, p, bin))
 }
 
 pub fn absorb_more(s: Session, p: Phase, bin: &[u8], rate: usize) -> Answer {
     let d = s.duplex;
     let st = d.st;
     let mode = d.mode;
-    before(s, p, walkback::absorb_more(st, mode, p, bin, rate))
+    let rule = s.rule;
+    before(s, p, walkback::absorb_more(st, rule, mode, p, bin, rate))
 }
 
 pub fn encrypt(s: Session, p: Phase, bin: &[u8]) -> Answer {
     let d = s.duplex;
     let st = d.st;
     let mode = d.mode;
-    before(s, p, walkback::encrypt(st, mode, p, bin))
+    let rule = s.rule;
+    before(s, p, walkback::encrypt(st, rule, mode, p, bin))
 }
 
 pub fn seal(s: Session, p: Phase, bin: &[u8]) -> Answer {
     let d = s.duplex;
     let st = d.st;
     let mode = d.mode;
-    before(s, p, walkback::seal(st, mode, p, bin))
+    let rule = s.rule;
+    before(s, p, walkback::seal(st, rule, mode, p, bin))
 }
 
 pub fn key<'a>(
@@ -80,8 +87,10 @@ pub fn key<'a>(
     let d = s.duplex;
     let st = d.st;
     let mode = d.mode;
+    let rule = s.rule;
     let b = walkback::key(
         st,
+        rule,
         mode,
         p,
         key,
@@ -99,10 +108,11 @@ fn squeezed(s: Session, p: Phase, how: SqueezeCall, n: usize) -> Before {
     let d = s.duplex;
     let st = d.st;
     let mode = d.mode;
+    let rule = s.rule;
     match how {
-        SqueezeCall::Plain => walkback::squeeze(st, mode, p, n),
-        SqueezeCall::Key => walkback::squeeze_key(st, mode, p, n),
-        SqueezeCall::More => walkback::squeeze_more(st, mode, p, n),
+        SqueezeCall::Plain => walkback::squeeze(st, rule, mode, p, n),
+        SqueezeCall::Key => walkback::squeeze_key(st, rule, mode, p, n),
+        SqueezeCall::More => walkback::squeeze_more(st, rule, mode, p, n),
     }
 }
 

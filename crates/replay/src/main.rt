@@ -12,17 +12,21 @@ ghost use mathlib.Core.Path.{_≡_};
 ghost use lib.ListN.{length};
 use check::same;
 use libc::STDIN_FILENO;
+use words::RuleWord;
 use words::begins;
 use words::first;
 use words::rest;
+use words::rule;
 use xoodoo::Xoodoo;
+use xoodyak::Rule;
 use xoodyak::Session;
 
 const LONGEST: usize = 40000;
 
-// What a runner holds, how many bytes of the present line have come, and whether there may be more.
+// What a runner holds, the rule of the sessions that it makes, how many bytes of the present line have come, and whether there may be more.
 pub struct State {
     pub session: Session,
+    pub rule: Rule,
     pub xoodoo: Xoodoo,
     pub come: usize,
     pub more: bool,
@@ -31,7 +35,8 @@ pub struct State {
 impl State {
     fn start() -> State {
         State {
-            session: Session::hash(),
+            session: Session::hash(Rule::Crate),
+            rule: Rule::Crate,
             xoodoo: Xoodoo::default(),
             come: 0,
             more: true,
@@ -47,6 +52,18 @@ impl State {
         self.session = s;
         self
     }
+
+    fn with_rule(self, r: Rule) -> State {
+        let session = self.session;
+        let xoodoo = self.xoodoo;
+        State {
+            session: session,
+            rule: r,
+            xoodoo: xoodoo,
+            come: self.come,
+            more: self.more,
+        }
+    }
 }
 
 // One byte more than the longest line: a line that is too long shows by its length.
@@ -58,6 +75,15 @@ fn line_space() -> [u8; 40001]
 
 fn front<'a>(text: &'a [u8], n: usize) -> &'a [u8] {
     if n < text.len() { &text[0..n] } else { text }
+}
+
+fn set_rule(m: State, word: &[u8], out: &mut [u8], at: &mut usize) -> State {
+    let RuleWord::Is(r) = rule(word) else {
+        out::bad(out, at);
+        return m;
+    };
+    out::number(out, at, 0);
+    m.with_rule(r)
 }
 
 fn answer(m: State, text: &[u8], n: usize, out: &mut [u8], at: &mut usize) -> State {
@@ -87,7 +113,15 @@ fn answer(m: State, text: &[u8], n: usize, out: &mut [u8], at: &mut usize) -> St
     if same(name, b"back") {
         return m.with_session(back_lines::answer(s, rest(line), out, at));
     }
-    m.with_session(session_lines::answer(s, line, out, at))
+    if same(line, b"rule") {
+        session_lines::own_rule(s, out, at);
+        return m;
+    }
+    if same(name, b"rule") {
+        return set_rule(m, rest(line), out, at);
+    }
+    let r = m.rule;
+    m.with_session(session_lines::answer(s, r, line, out, at))
 }
 
 // Gathers the byte into the line, or answers the line that it ends.

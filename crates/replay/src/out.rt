@@ -67,13 +67,19 @@ pub fn number(out: &mut [u8], at: &mut usize, n: u8) {
     byte(out, at, b'\n');
 }
 
+// With 3 how many bytes the output lacks.
+fn lacking(out: &mut [u8], at: &mut usize, n: u8, missing: usize) {
+    if n != 3 {
+        return;
+    }
+    byte(out, at, b':');
+    decimal(out, at, missing as u64);
+}
+
 // A number, with 3 how many bytes the output lacks, and a buffer.
 pub fn number_then_buf(out: &mut [u8], at: &mut usize, n: u8, missing: usize, buf: &[u8]) {
     decimal(out, at, n as u64);
-    if n == 3 {
-        byte(out, at, b':');
-        decimal(out, at, missing as u64);
-    }
+    lacking(out, at, n, missing);
     byte(out, at, b' ');
     hex(out, at, buf);
 }

@@ -15,15 +15,16 @@ use crate::words::room;
 use crate::words::space;
 use check::same;
 use xoodyak::Answer;
+use xoodyak::Rule;
 use xoodyak::Session;
 use xoodyak::cyclist::Duplex;
 use xoodyak::cyclist::Mode;
 use xoodyak::cyclist::Phase;
 use xoodyak::tag::Tag;
 
-// Calls whose lines have one shape; a call walked back has the phase before it.
+// Calls whose lines have one shape; a session made new has its rule, a call walked back the phase before it.
 pub enum KeyCall {
-    New,
+    New(Rule),
     Key,
     Back(Phase),
 }
@@ -57,13 +58,16 @@ pub fn done(r: Answer, out: &mut [u8], at: &mut usize) -> Session {
     r.session
 }
 
-pub fn session(st: [u8; 48], mode: Mode, phase: Phase) -> Session {
+pub fn session(st: [u8; 48], mode: Mode, phase: Phase, rule: Rule) -> Session {
     let duplex = Duplex {
         st: st,
         mode: mode,
         phase: phase,
     };
-    Session { duplex: duplex }
+    Session {
+        duplex: duplex,
+        rule: rule,
+    }
 }
 
 fn set(s: Session, words: &[u8], out: &mut [u8], at: &mut usize) -> Session {
@@ -80,7 +84,8 @@ fn set(s: Session, words: &[u8], out: &mut [u8], at: &mut usize) -> Session {
         return bad(s, out, at);
     }
     out::number(out, at, 0);
-    session(st, m, p)
+    let rule = s.rule;
+    session(st, m, p, rule)
 }
 
 fn mode_name(out: &mut [u8], at: &mut usize, m: Mode) {
@@ -94,6 +99,15 @@ fn phase_name(out: &mut [u8], at: &mut usize, p: Phase) {
     match p {
         Phase::Up => out::text(out, at, b"up "),
         Phase::Down => out::text(out, at, b"down "),
+    }
+}
+
+// The session's own rule.
+pub fn own_rule(s: Session, out: &mut [u8], at: &mut usize) {
+    let rule = s.rule;
+    match rule {
+        Rule::Crate => out::text(out, at, b"crate\n"),
+        Rule::Specification => out::text(out, at, b"spec\n"),
     }
 }
 
@@ -119,8 +133,9 @@ fn keyed<'a>(
     counter: &[u8],
 ) -> Answer {
     match how {
-        KeyCall::New => {
+        KeyCall::New(rule) => {
             Session::new(
+                rule,
                 key,
                 has_second,
                 second,
@@ -264,12 +279,13 @@ fn verify(words: &[u8], out: &mut [u8], at: &mut usize) {
     }
 }
 
-pub fn answer(s: Session, line: &[u8], out: &mut [u8], at: &mut usize) -> Session {
+// A session made new has the rule given.
+pub fn answer(s: Session, rule: Rule, line: &[u8], out: &mut [u8], at: &mut usize) -> Session {
     let name = first(line);
     let words = rest(line);
     if same(line, b"hash") {
         out::number(out, at, 0);
-        return Session::hash();
+        return Session::hash(rule);
     }
     if same(line, b"state") {
         state(s, out, at);
@@ -279,7 +295,7 @@ pub fn answer(s: Session, line: &[u8], out: &mut [u8], at: &mut usize) -> Sessio
         return done(s.ratchet(), out, at);
     }
     if same(name, b"new") {
-        return keying(s, KeyCall::New, words, out, at);
+        return keying(s, KeyCall::New(rule), words, out, at);
     }
     if same(name, b"key") {
         return keying(s, KeyCall::Key, words, out, at);

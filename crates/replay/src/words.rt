@@ -4,6 +4,7 @@ ghost use Prim.Native.Nat.{_≤_};
 ghost use lib.ListN.{length};
 use crate::hex::pair;
 use check::same;
+use xoodyak::Rule;
 use xoodyak::cyclist::Mode;
 use xoodyak::cyclist::Phase;
 
@@ -27,6 +28,11 @@ pub enum PhaseWord {
 
 pub enum ModeWord {
     Is(Mode),
+    Other,
+}
+
+pub enum RuleWord {
+    Is(Rule),
     Other,
 }
 
@@ -215,6 +221,16 @@ pub fn mode(word: &[u8]) -> ModeWord {
         return ModeWord::Is(Mode::Keyed);
     }
     ModeWord::Other
+}
+
+pub fn rule(word: &[u8]) -> RuleWord {
+    if same(word, b"crate") {
+        return RuleWord::Is(Rule::Crate);
+    }
+    if same(word, b"spec") {
+        return RuleWord::Is(Rule::Specification);
+    }
+    RuleWord::Other
 }
 
 // The four words of a key call, at the front of four buffers.

@@ -20,6 +20,8 @@ use Rattle.xoodyak.specs.declared.cyclist.Mode.the-variants.{Hash, Keyed}
 use Rattle.xoodyak.specs.declared.cyclist.Phase.{Phase}
 use Rattle.xoodyak.specs.declared.cyclist.Phase.the-variants.{Up, Down}
 use Rattle.xoodyak.specs.declared.cyclist.Duplex.{Duplex}
+use Rattle.xoodyak.specs.declared.Rule.{Rule}
+use Rattle.xoodyak.specs.declared.Rule.the-variants.{Crate, Specification}
 use Rattle.xoodyak.specs.declared.Session.{Session}
 use Rattle.xoodyak.specs.Cyclist.{squeezeRate, upBytes, up, down, readyFrom, ready, absorbBlocks, absorb, moreBlocks, absorbMore, next, nextsEnd, nextsOut, squeezeMoreEnd, squeezeMoreOut, squeezeEnd, squeezeOut, messageBlocks, encEnd, encOut, decEnd, decOut, ratchet, ifGiven, keyCall}
 use Rattle.xoodyak.specs.Numbers.{first}
@@ -214,22 +216,31 @@ dec-length =
     (λ cu d. rw (cuts-nil 24 [] (lit≤ tt)))
     (λ m k h e ih cu d. ap length (dec-out-step m k h e cu d) ∙ rw (length-append, first-length m k h e cu d, ih, length-drop) (omega arith))
 
+-- what holds of the blocks that are cut, and of one empty block, holds of a message's blocks under either rule
+pub by-rule :
+    (P : List ℕ → List (List ℕ) → Type 0) → ((m : List ℕ) → P m (cuts 24 m)) → P [] ([] ∷ [])
+    → (rule : Rule) (m : List ℕ) → P m (messageBlocks rule m)
+unfolding messageBlocks blocks
+by-rule P f z Crate m = f m
+by-rule P f z Specification [] = z
+by-rule P f z Specification (a ∷ m) = f (a ∷ m)
+
 -- what is encrypted or decrypted keeps its length
 pub encrypt-length : (s : Session) (m : List ℕ) → length (encryptOut s m) ≡ length m
-unfolding encryptOut messageBlocks
-encrypt-length s m = enc-length m 0x80 (s .duplex)
+unfolding encryptOut encOut
+encrypt-length s =
+    by-rule (λ (m : List ℕ) (bs : List (List ℕ)). length (encOut bs 0x80 (s .duplex)) ≡ length m) (λ m. enc-length m 0x80 (s .duplex)) refl (s .rule)
 
 pub decrypt-length : (s : Session) (c : List ℕ) → length (decryptOut s c) ≡ length c
-unfolding decryptOut messageBlocks
-decrypt-length s c = dec-length c 0x80 (s .duplex)
+unfolding decryptOut decOut
+decrypt-length s =
+    by-rule (λ (c : List ℕ) (bs : List (List ℕ)). length (decOut bs 0x80 (s .duplex)) ≡ length c) (λ c. dec-length c 0x80 (s .duplex)) refl (s .rule)
 
--- ---- decryption undoes encryption
-abbrev Back : List ℕ → ℕ → Duplex → Type 0
-Back m cu d =
-    (decOut (cuts 24 (encOut (cuts 24 m) cu d)) cu d ≡ m)
-    × (decEnd (cuts 24 (encOut (cuts 24 m) cu d)) cu d ≡ encEnd (cuts 24 m) cu d)
+-- ---- decryption undoes encryption, where B gives the blocks of a message
+abbrev Back : (List ℕ → List (List ℕ)) → List ℕ → ℕ → Duplex → Type 0
+Back B m cu d = (decOut (B (encOut (B m) cu d)) cu d ≡ m) × (decEnd (B (encOut (B m) cu d)) cu d ≡ encEnd (B m) cu d)
 
-back-step : (m : List ℕ) (k : ℕ) → 0 < length m → k ≡ min 24 (length m) → ((cu : ℕ) (d : Duplex) → Back (drop k m) cu d) → (cu : ℕ) (d : Duplex) → Back m cu d
+back-step : (m : List ℕ) (k : ℕ) → 0 < length m → k ≡ min 24 (length m) → ((cu : ℕ) (d : Duplex) → Back (cuts 24) (drop k m) cu d) → (cu : ℕ) (d : Duplex) → Back (cuts 24) m cu d
 back-step m k h e ih cu d =
     let p = up d cu .st in
     let t = down (up d cu) (take k m) 0 in
@@ -248,22 +259,37 @@ back-step m k h e ih cu d =
       dec-end-step C k hC eC cu d ∙ rw (et, ed, eb, ih 0 t .1) (sym (enc-end-step m k h e cu d)),
     )
 
-back : (m : List ℕ) (cu : ℕ) (d : Duplex) → Back m cu d
+back : (m : List ℕ) (cu : ℕ) (d : Duplex) → Back (cuts 24) m cu d
 unfolding encOut encEnd decOut decEnd
 back =
-    by-blocks (λ (m : List ℕ). (cu : ℕ) (d : Duplex) → Back m cu d)
+    by-blocks (λ (m : List ℕ). (cu : ℕ) (d : Duplex) → Back (cuts 24) m cu d)
     (λ cu d. (rw (cuts-nil 24 [] (lit≤ tt)) (rw (cuts-nil 24 [] (lit≤ tt))), rw (cuts-nil 24 [] (lit≤ tt)) (rw (cuts-nil 24 [] (lit≤ tt)))))
     back-step
 
+-- a message that isn't empty has the blocks that are cut, whatever the rule
+pub some-cuts : (rule : Rule) (x : List ℕ) → 0 < length x → messageBlocks rule x ≡ cuts 24 x
+unfolding messageBlocks blocks
+some-cuts Crate x h = refl
+some-cuts Specification [] h = absurd (not-suc-le-zero h)
+some-cuts Specification (a ∷ x) h = refl
+
+-- under either rule, since a ciphertext is as long as its message
+message-back : (rule : Rule) (m : List ℕ) (cu : ℕ) (d : Duplex) → Back (messageBlocks rule) m cu d
+unfolding messageBlocks blocks encOut encEnd decOut decEnd
+message-back Crate m cu d = back m cu d
+message-back Specification [] cu d = (refl, refl)
+message-back Specification (a ∷ m) cu d =
+    rw (some-cuts Specification (encOut (cuts 24 (a ∷ m)) cu d) (omega (arith, enc-length (a ∷ m) cu d))) (back (a ∷ m) cu d)
+
 -- from one session: the message comes back
 pub decrypt-encrypt : (s : Session) (m : List ℕ) → decryptOut s (encryptOut s m) ≡ m
-unfolding encryptOut decryptOut messageBlocks
-decrypt-encrypt s m = back m 0x80 (s .duplex) .0
+unfolding encryptOut decryptOut
+decrypt-encrypt s m = message-back (s .rule) m 0x80 (s .duplex) .0
 
 -- and both sides end in one session
 pub decrypt-encrypt-end : (s : Session) (m : List ℕ) → decryptEnd s (encryptOut s m) ≡ encryptEnd s m
-unfolding encryptOut encryptEnd decryptEnd messageBlocks
-decrypt-encrypt-end s m = rw (back m 0x80 (s .duplex) .1)
+unfolding encryptOut encryptEnd decryptEnd
+decrypt-encrypt-end s m = rw (message-back (s .rule) m 0x80 (s .duplex) .1)
 
 -- ---- tags compared
 pub both-true : (a b : Bool) → both a b ≡ true → (a ≡ true) × (b ≡ true)

@@ -11,6 +11,7 @@ use borrow.Author.Tests.{ltb-true, ltb-false, eq-eqb, ne-eqb}
 use Rattle.xoodyak.specs.declared.cyclist.Mode.{Mode}
 use Rattle.xoodyak.specs.declared.cyclist.Mode.the-variants.{Hash, Keyed}
 use Rattle.xoodyak.specs.declared.tag.Tag.{Tag}
+use Rattle.xoodyak.specs.declared.Rule.{Rule}
 use Rattle.xoodyak.specs.declared.Session.{Session}
 use Rattle.xoodyak.specs.Cyclist.{absorbRate, given}
 use Rattle.xoodyak.specs.Numbers.{when, first, modeNumber, keyNumber, roomNumber, missing, tailNumber, rateNumber}
@@ -258,12 +259,13 @@ module _ (key : List ℕ) (hasId : Bool) (id : List ℕ) (hasNonce : Bool) (nonc
   unfolding keyOf
   key-answers s = plain _ _ s [] _ (then (mode-row (mode s)) (key-rows (length key) _ _) refl) (no-count _) refl refl refl
 
-  -- `new`: 2, 8 or 9 likewise; refused, it hands back a fresh Hash session
+  -- `new`: 2, 8 or 9 likewise; refused, it hands back a fresh Hash session with that rule
   pub new-answers :
-      Answers (newOf key hasNonce nonce hasId id hasCounter counter) (session Hash) [] 0
+      (rule : Rule)
+      → Answers (newOf rule key hasNonce nonce hasId id hasCounter counter) (session rule Hash) [] 0
       (keyRows (length key) (length (given hasId id)) (length (given hasNonce nonce)))
   unfolding newOf
-  new-answers = plain _ _ (session Hash) [] _ (key-rows (length key) _ _) (no-count _) refl refl refl
+  new-answers rule = plain _ _ (session rule Hash) [] _ (key-rows (length key) _ _) (no-count _) refl refl refl
 
 module _ (s : Session) where
   -- `ratchet`: 1 in Hash

@@ -1,5 +1,6 @@
 -- The claims: a file for each demand, the marked cases, and that a promise decides its result.
 pub mod Crypt
+pub mod Rules
 pub mod Demand1
 pub mod Demand2
 pub mod Demand3

@@ -23,6 +23,7 @@ use Rattle.xoodyak.specs.Cyclist.{squeezeRate, upBytes, downBytes, up, down, re
 use Rattle.xoodyak.specs.Numbers.{modeNumber}
 use Rattle.xoodyak.specs.Calls.{noTag, taken, settle, onward, mode, ratchetOf}
 use Rattle.theorems.proofs.Crypt.{up-length, one-block}
+use Rattle.theorems.proofs.Rules.{ratchet-rule}
 
 -- ---- 16 bytes are squeezed by one Up, in both modes
 rate-16 : (m : Mode) → 16 - squeezeRate m ≤ 0
@@ -87,11 +88,11 @@ ratchet-end s keyed =
     ∙ ap (λ (b : List ℕ). record { st = b; mode = Keyed; phase = Down }) (down-16 (permuted s) (rw xoodoo-length (lit≤ tt)))
 
 -- ---- which states it merges
--- two keyed states end equal exactly when, after 10 (hex) is xored into byte 47 and Xoodoo applied, they agree on bytes 16 to 47
+-- two keyed states under one rule end equal exactly when, after 10 (hex) is xored into byte 47 and Xoodoo applied, they agree on bytes 16 to 47
 pub ratchet-merges :
-    (s s′ : Session) → mode s ≡ Keyed → mode s′ ≡ Keyed
+    (s s′ : Session) → mode s ≡ Keyed → mode s′ ≡ Keyed → s .rule ≡ s′ .rule
     → (ratchetOf s .session ≡ ratchetOf s′ .session) ↔ (drop 16 (permuted s) ≡ drop 16 (permuted s′))
-ratchet-merges s s′ k k′ = (
+ratchet-merges s s′ k k′ r = (
   λ e. let f : addAt (drop 16 (permuted s)) 0 1 ≡ addAt (drop 16 (permuted s′)) 0 1 =
       ap (λ (d : Duplex). drop 16 (d .st)) (sym (ratchet-end s k) ∙ ap (λ (x : Session). x .duplex) e ∙ ratchet-end s′ k′) in
       sym (addAt-back (drop 16 (permuted s)) 0 1) ∙ ap (λ (q : List ℕ). addAt q 0 1) f ∙ addAt-back (drop 16 (permuted s′)) 0 1,
@@ -99,5 +100,6 @@ ratchet-merges s s′ k k′ = (
       ratchet-end s k
       ∙ ap (λ (q : List ℕ). record { st = replicate 16 0 ++ addAt q 0 1; mode = Keyed; phase = Down }) e
       ∙ sym (ratchet-end s′ k′) in
-      ap (λ (d : Duplex). record { duplex = d }) f,
+      let g : ratchetOf s .session .rule ≡ ratchetOf s′ .session .rule = ratchet-rule s ∙ r ∙ sym (ratchet-rule s′) in
+      λ i. record { duplex = f i; rule = g i },
 )

@@ -9,16 +9,19 @@ use lib.Dec.{lit<, lit≤}
 use lib.ListN.{length, take, drop, length-append, length-take, length-drop}
 use lib.Seq.{take-at, drop-at}
 use Rattle.laws.specs.Lists.{addFront}
-use Rattle.laws.specs.Blocks.{cuts}
+use Rattle.laws.specs.Blocks.{cuts, blocks}
 use Rattle.laws.proofs.Lists.{length-addFront}
 use Rattle.laws.proofs.Blocks.{cuts-step, cuts-nil}
 use Rattle.xoodyak.specs.declared.cyclist.Mode.{Mode}
 use Rattle.xoodyak.specs.declared.cyclist.Phase.{Phase}
+use Rattle.xoodyak.specs.declared.Rule.{Rule}
+use Rattle.xoodyak.specs.declared.Rule.the-variants.{Crate, Specification}
 use Rattle.xoodyak.specs.declared.Session.{Session}
 use Rattle.xoodyak.specs.declared.cyclist.Duplex.{Duplex}
 use Rattle.xoodyak.specs.Cyclist.{up, down, squeezeEnd, messageBlocks, encEnd, decEnd, decOut}
 use Rattle.xoodyak.specs.Numbers.{first, roomNumber, tailNumber}
 use Rattle.xoodyak.specs.Calls.{Outcome, settle, mode, absorbOf, absorbMoreOf, squeezeOf, squeezeMoreOf, keyOf, encryptEnd, encryptOf, encryptInPlaceOf, decryptEnd, decryptOut, decryptOf, decryptInPlaceOf, sameBytes, verdict, opened, tagEnd, tagOut, sealDetachedOf, sealOf, sealInPlaceDetachedOf, sealInPlaceOf}
+use Rattle.theorems.proofs.Crypt.{some-cuts}
 use Rattle.walkback.specs.Walk.{Call, absorbs, absorbsMore, squeezes, squeezesKey, squeezesMore, keys, encrypts, seals, callNumber, forward, back, settled, beforeOf}
 
 -- ---- a step back has the number of its call: refused, it hands back the 48 bytes given
@@ -30,16 +33,16 @@ settled-given : (n : ℕ) (st b : List ℕ) → 0 < n → settled n st b .st ≡
 settled-given zero st b h = absurd (not-suc-le-zero h)
 settled-given (suc n) st b h = refl
 
-module _ (m : Mode) (p : Phase) (c : Call) (st : List ℕ) where
-  pub step-number : beforeOf m p c st .number ≡ callNumber m c
+module _ (rule : Rule) (m : Mode) (p : Phase) (c : Call) (st : List ℕ) where
+  pub step-number : beforeOf rule m p c st .number ≡ callNumber m c
   unfolding beforeOf
-  step-number = settled-number (callNumber m c) st (back m p c st)
+  step-number = settled-number (callNumber m c) st (back rule m p c st)
 
-  pub step-refused : 0 < beforeOf m p c st .number → beforeOf m p c st .st ≡ st
+  pub step-refused : 0 < beforeOf rule m p c st .number → beforeOf rule m p c st .st ≡ st
   unfolding beforeOf
-  step-refused h = settled-given (callNumber m c) st (back m p c st) (rw step-number at h)
+  step-refused h = settled-given (callNumber m c) st (back rule m p c st) (rw step-number at h)
 
-  pub step-accepted : beforeOf m p c st .number ≡ 0 → beforeOf m p c st .st ≡ back m p c st
+  pub step-accepted : beforeOf rule m p c st .number ≡ 0 → beforeOf rule m p c st .st ≡ back rule m p c st
   unfolding beforeOf
   step-accepted h = rw (sym step-number ∙ h)
 
@@ -53,7 +56,7 @@ pub absorb-number : (s : Session) (x : List ℕ) → absorbOf s x .number ≡ ca
 unfolding absorbOf callNumber
 absorb-number s x = refl
 
-pub absorb-end : (s : Session) (x : List ℕ) → absorbOf s x .session .duplex ≡ forward (absorbs x) (s .duplex)
+pub absorb-end : (s : Session) (x : List ℕ) → absorbOf s x .session .duplex ≡ forward (s .rule) (absorbs x) (s .duplex)
 unfolding absorbOf forward
 absorb-end s x = refl
 
@@ -62,7 +65,7 @@ unfolding absorbMoreOf callNumber
 absorb-more-number s x r = settle-number _ _ s [] _ refl
 
 pub absorb-more-end : (s : Session) (x : List ℕ) (r : ℕ) → absorbMoreOf s x r .number ≡ 0
-    → absorbMoreOf s x r .session .duplex ≡ forward (absorbsMore x r) (s .duplex)
+    → absorbMoreOf s x r .session .duplex ≡ forward (s .rule) (absorbsMore x r) (s .duplex)
 unfolding absorbMoreOf forward callNumber
 absorb-more-end s x r h = rw (sym (absorb-more-number s x r) ∙ h)
 
@@ -70,7 +73,7 @@ pub squeeze-number : (s : Session) (o : List ℕ) → squeezeOf 0x40 s o .number
 unfolding squeezeOf callNumber
 squeeze-number s o = refl
 
-pub squeeze-end : (s : Session) (o : List ℕ) → squeezeOf 0x40 s o .session .duplex ≡ forward (squeezes (length o)) (s .duplex)
+pub squeeze-end : (s : Session) (o : List ℕ) → squeezeOf 0x40 s o .session .duplex ≡ forward (s .rule) (squeezes (length o)) (s .duplex)
 unfolding squeezeOf forward
 squeeze-end s o = refl
 
@@ -78,7 +81,7 @@ pub squeeze-key-number : (s : Session) (o : List ℕ) → squeezeOf 0x20 s o .nu
 unfolding squeezeOf callNumber
 squeeze-key-number s o = refl
 
-pub squeeze-key-end : (s : Session) (o : List ℕ) → squeezeOf 0x20 s o .session .duplex ≡ forward (squeezesKey (length o)) (s .duplex)
+pub squeeze-key-end : (s : Session) (o : List ℕ) → squeezeOf 0x20 s o .session .duplex ≡ forward (s .rule) (squeezesKey (length o)) (s .duplex)
 unfolding squeezeOf forward
 squeeze-key-end s o = refl
 
@@ -86,7 +89,7 @@ pub squeeze-more-number : (s : Session) (o : List ℕ) → squeezeMoreOf s o .nu
 unfolding squeezeMoreOf callNumber
 squeeze-more-number s o = refl
 
-pub squeeze-more-end : (s : Session) (o : List ℕ) → squeezeMoreOf s o .session .duplex ≡ forward (squeezesMore (length o)) (s .duplex)
+pub squeeze-more-end : (s : Session) (o : List ℕ) → squeezeMoreOf s o .session .duplex ≡ forward (s .rule) (squeezesMore (length o)) (s .duplex)
 unfolding squeezeMoreOf forward
 squeeze-more-end s o = refl
 
@@ -97,7 +100,7 @@ module _ (s : Session) (key : List ℕ) (hasId : Bool) (id : List ℕ) (hasNonce
   key-number = settle-number _ _ s [] _ refl
 
   pub key-end : keyOf s key hasId id hasNonce nonce hasCounter counter .number ≡ 0
-      → keyOf s key hasId id hasNonce nonce hasCounter counter .session .duplex ≡ forward (keys key hasId id hasNonce nonce hasCounter counter) (s .duplex)
+      → keyOf s key hasId id hasNonce nonce hasCounter counter .session .duplex ≡ forward (s .rule) (keys key hasId id hasNonce nonce hasCounter counter) (s .duplex)
   unfolding keyOf forward callNumber
   key-end h = rw (sym (key-number) ∙ h)
 
@@ -106,7 +109,7 @@ pub encrypt-number : (s : Session) (o m : List ℕ) → encryptOf s o m .number 
 unfolding encryptOf callNumber
 encrypt-number s o m = settle-number _ _ s o _ refl
 
-pub encrypt-end : (s : Session) (o m : List ℕ) → encryptOf s o m .number ≡ 0 → encryptOf s o m .session .duplex ≡ forward (encrypts m) (s .duplex)
+pub encrypt-end : (s : Session) (o m : List ℕ) → encryptOf s o m .number ≡ 0 → encryptOf s o m .session .duplex ≡ forward (s .rule) (encrypts m) (s .duplex)
 unfolding encryptOf encryptEnd forward callNumber
 encrypt-end s o m h = rw (sym (encrypt-number s o m) ∙ h)
 
@@ -114,7 +117,7 @@ pub encrypt-in-place-number : (s : Session) (b : List ℕ) → encryptInPlaceOf 
 unfolding encryptInPlaceOf callNumber
 encrypt-in-place-number s b = settle-number _ _ s b _ refl
 
-pub encrypt-in-place-end : (s : Session) (b : List ℕ) → encryptInPlaceOf s b .number ≡ 0 → encryptInPlaceOf s b .session .duplex ≡ forward (encrypts b) (s .duplex)
+pub encrypt-in-place-end : (s : Session) (b : List ℕ) → encryptInPlaceOf s b .number ≡ 0 → encryptInPlaceOf s b .session .duplex ≡ forward (s .rule) (encrypts b) (s .duplex)
 unfolding encryptInPlaceOf encryptEnd forward callNumber
 encrypt-in-place-end s b h = rw (sym (encrypt-in-place-number s b) ∙ h)
 
@@ -122,7 +125,7 @@ pub seal-detached-number : (s : Session) (o m : List ℕ) → sealDetachedOf s o
 unfolding sealDetachedOf callNumber
 seal-detached-number s o m = settle-number _ _ s o _ refl
 
-pub seal-detached-end : (s : Session) (o m : List ℕ) → sealDetachedOf s o m .number ≡ 0 → sealDetachedOf s o m .session .duplex ≡ forward (seals m) (s .duplex)
+pub seal-detached-end : (s : Session) (o m : List ℕ) → sealDetachedOf s o m .number ≡ 0 → sealDetachedOf s o m .session .duplex ≡ forward (s .rule) (seals m) (s .duplex)
 unfolding sealDetachedOf encryptEnd tagEnd forward callNumber
 seal-detached-end s o m h = rw (sym (seal-detached-number s o m) ∙ h)
 
@@ -130,7 +133,7 @@ pub seal-number : (s : Session) (o m : List ℕ) → sealOf s o m .number ≡ fi
 unfolding sealOf callNumber
 seal-number s o m = settle-number _ _ s o _ refl
 
-pub seal-end : (s : Session) (o m : List ℕ) → sealOf s o m .number ≡ 0 → sealOf s o m .session .duplex ≡ forward (seals m) (s .duplex)
+pub seal-end : (s : Session) (o m : List ℕ) → sealOf s o m .number ≡ 0 → sealOf s o m .session .duplex ≡ forward (s .rule) (seals m) (s .duplex)
 unfolding sealOf encryptEnd tagEnd forward callNumber
 seal-end s o m h = rw (sym (seal-number s o m) ∙ h)
 
@@ -139,7 +142,7 @@ unfolding sealInPlaceDetachedOf callNumber
 seal-in-place-detached-number s b = settle-number _ _ s b _ refl
 
 pub seal-in-place-detached-end : (s : Session) (b : List ℕ) → sealInPlaceDetachedOf s b .number ≡ 0
-    → sealInPlaceDetachedOf s b .session .duplex ≡ forward (seals b) (s .duplex)
+    → sealInPlaceDetachedOf s b .session .duplex ≡ forward (s .rule) (seals b) (s .duplex)
 unfolding sealInPlaceDetachedOf encryptEnd tagEnd forward callNumber
 seal-in-place-detached-end s b h = rw (sym (seal-in-place-detached-number s b) ∙ h)
 
@@ -149,19 +152,17 @@ unfolding sealInPlaceOf callNumber
 seal-in-place-number s b = settle-number _ _ s b _ refl
 
 pub seal-in-place-end : (s : Session) (b : List ℕ) → sealInPlaceOf s b .number ≡ 0
-    → sealInPlaceOf s b .session .duplex ≡ forward (seals (take (length b - 16) b)) (s .duplex)
+    → sealInPlaceOf s b .session .duplex ≡ forward (s .rule) (seals (take (length b - 16) b)) (s .duplex)
 unfolding sealInPlaceOf encryptEnd tagEnd forward callNumber
 seal-in-place-end s b h = rw (sym (seal-in-place-number s b) ∙ h)
 
--- ---- a decryption is walked back as the encryption of what it recovered
-abbrev AsEncryption : List ℕ → ℕ → Duplex → Type 0
-AsEncryption c cu d =
-    (length (decOut (cuts 24 c) cu d) ≡ length c)
-    × (encEnd (cuts 24 (decOut (cuts 24 c) cu d)) cu d ≡ decEnd (cuts 24 c) cu d)
+-- ---- a decryption is walked back as the encryption of what it recovered, where B gives the blocks of a message
+abbrev AsEncryption : (List ℕ → List (List ℕ)) → List ℕ → ℕ → Duplex → Type 0
+AsEncryption B c cu d = (length (decOut (B c) cu d) ≡ length c) × (encEnd (B (decOut (B c) cu d)) cu d ≡ decEnd (B c) cu d)
 
 -- one block, where it holds of the others
 as-encryption-step : (c : List ℕ) (k : ℕ) → 0 < length c → k ≡ min 24 (length c)
-    → ((cu : ℕ) (d : Duplex) → AsEncryption (drop k c) cu d) → (cu : ℕ) (d : Duplex) → AsEncryption c cu d
+    → ((cu : ℕ) (d : Duplex) → AsEncryption (cuts 24) (drop k c) cu d) → (cu : ℕ) (d : Duplex) → AsEncryption (cuts 24) c cu d
 unfolding decOut decEnd encEnd
 as-encryption-step c k h e ih cu d =
     let b = addFront (take k c) (up d cu .st) in
@@ -175,7 +176,7 @@ as-encryption-step c k h e ih cu d =
     cuts-step 24 (b ++ r) k (lit< tt) (omega arith) (omega arith) ∙ rw (take-at b r k lb, drop-at b r k lb) in
     (rw es l, rw es (rw eb (ih 0 t .1)))
 
-as-encryption : (n : ℕ) (c : List ℕ) → length c ≤ n → (cu : ℕ) (d : Duplex) → AsEncryption c cu d
+as-encryption : (n : ℕ) (c : List ℕ) → length c ≤ n → (cu : ℕ) (d : Duplex) → AsEncryption (cuts 24) c cu d
 unfolding decOut decEnd encEnd
 as-encryption zero [] h cu d = rw (cuts-nil 24 [] (lit≤ tt)) (refl, rw (cuts-nil 24 [] (lit≤ tt)))
 as-encryption zero (a ∷ c) h cu d = absurd (not-suc-le-zero h)
@@ -184,9 +185,18 @@ as-encryption (suc n) (a ∷ c) h cu d =
     let k = min 24 (suc (length c)) in
     as-encryption-step (a ∷ c) k (omega arith) refl (as-encryption n (drop k (a ∷ c)) (rw length-drop (omega arith))) cu d
 
-decrypted-end : (s : Session) (c : List ℕ) → decryptEnd s c .duplex ≡ forward (encrypts (decryptOut s c)) (s .duplex)
-unfolding decryptEnd decryptOut messageBlocks forward
-decrypted-end s c = sym (as-encryption (length c) c (le-refl _) 0x80 (s .duplex) .1)
+-- under either rule, since what is recovered is as long as the ciphertext
+message-as-encryption : (rule : Rule) (c : List ℕ) (cu : ℕ) (d : Duplex) → AsEncryption (messageBlocks rule) c cu d
+unfolding messageBlocks blocks decOut decEnd encEnd
+message-as-encryption Crate c cu d = as-encryption (length c) c (le-refl _) cu d
+message-as-encryption Specification [] cu d = (refl, refl)
+message-as-encryption Specification (a ∷ c) cu d =
+    let h = as-encryption (length (a ∷ c)) (a ∷ c) (le-refl _) cu d in
+    (h .0, rw (some-cuts Specification (decOut (cuts 24 (a ∷ c)) cu d) (omega (arith, h .0))) (h .1))
+
+decrypted-end : (s : Session) (c : List ℕ) → decryptEnd s c .duplex ≡ forward (s .rule) (encrypts (decryptOut s c)) (s .duplex)
+unfolding decryptEnd decryptOut forward
+decrypted-end s c = sym (message-as-encryption (s .rule) c 0x80 (s .duplex) .1)
 
 pub decrypt-number : (s : Session) (o c : List ℕ)
     → decryptOf s o c .number ≡ first (callNumber (mode s) (encrypts (decryptOut s c))) (roomNumber (length o) (length c))
@@ -194,7 +204,7 @@ unfolding decryptOf callNumber
 decrypt-number s o c = settle-number _ _ s o _ refl
 
 pub decrypt-end : (s : Session) (o c : List ℕ) → decryptOf s o c .number ≡ 0
-    → decryptOf s o c .session .duplex ≡ forward (encrypts (decryptOut s c)) (s .duplex)
+    → decryptOf s o c .session .duplex ≡ forward (s .rule) (encrypts (decryptOut s c)) (s .duplex)
 unfolding decryptOf callNumber
 decrypt-end s o c h = rw (sym (decrypt-number s o c) ∙ h) (decrypted-end s c)
 
@@ -203,7 +213,7 @@ unfolding decryptInPlaceOf callNumber
 decrypt-in-place-number s b = settle-number _ _ s b _ refl
 
 pub decrypt-in-place-end : (s : Session) (b : List ℕ) → decryptInPlaceOf s b .number ≡ 0
-    → decryptInPlaceOf s b .session .duplex ≡ forward (encrypts (decryptOut s b)) (s .duplex)
+    → decryptInPlaceOf s b .session .duplex ≡ forward (s .rule) (encrypts (decryptOut s b)) (s .duplex)
 unfolding decryptInPlaceOf callNumber
 decrypt-in-place-end s b h = rw (sym (decrypt-in-place-number s b) ∙ h) (decrypted-end s b)
 
@@ -212,7 +222,7 @@ verdict-end : (v : Bool) (s : Session) (good bad : List ℕ) → verdict v s goo
 verdict-end true s good bad = refl
 verdict-end false s good bad = refl
 
-pub open-end : (s : Session) (t c good bad : List ℕ) → opened s t c good bad .session .duplex ≡ forward (seals (decryptOut s c)) (s .duplex)
+pub open-end : (s : Session) (t c good bad : List ℕ) → opened s t c good bad .session .duplex ≡ forward (s .rule) (seals (decryptOut s c)) (s .duplex)
 unfolding opened tagEnd forward
 open-end s t c good bad =
     ap (λ e. e .duplex) (verdict-end (sameBytes (tagOut (decryptEnd s c)) t) (tagEnd (decryptEnd s c)) good bad)

@@ -19,10 +19,12 @@ use Rattle.xoodyak.specs.declared.cyclist.Mode.the-variants.{Hash, Keyed}
 use Rattle.xoodyak.specs.declared.cyclist.Phase.{Phase}
 use Rattle.xoodyak.specs.declared.cyclist.Phase.the-variants.{Up, Down}
 use Rattle.xoodyak.specs.declared.cyclist.Duplex.{Duplex}
+use Rattle.xoodyak.specs.declared.Rule.{Rule}
+use Rattle.xoodyak.specs.declared.Rule.the-variants.{Crate, Specification}
 use Rattle.xoodyak.specs.Cyclist.{absorbRate, squeezeRate, upColour, downColour, upBytes, downBytes, up, down, readyFrom, ready, absorbBlocks, absorb, moreBlocks, absorbMore, next, nextsEnd, squeezeMoreEnd, squeezeEnd, messageBlocks, encEnd, given, chosen, ifGiven, keyCall}
 use Rattle.xoodyak.specs.Numbers.{modeNumber}
 use Rattle.walkback.specs.Steps.{Step, upStep, downStep, does, undoes, run, undo, blockSteps, readySteps, absorbBlockSteps, absorbSteps, nextSteps, squeezeMoreSteps, squeezeSteps}
-use Rattle.walkback.specs.Walk.{Call, absorbs, absorbsMore, squeezes, squeezesKey, squeezesMore, keys, encrypts, seals, callNumber, forward, ifSteps, keyRun, keySteps, steps, unlessEmpty, phaseAfter, ofBytes}
+use Rattle.walkback.specs.Walk.{Call, absorbs, absorbsMore, squeezes, squeezesKey, squeezesMore, keys, encrypts, seals, callNumber, forward, ifSteps, keyRun, keySteps, steps, unlessEmpty, messagePhase, phaseAfter, ofBytes}
 use Rattle.walkback.proofs.Undoing.{chosen-length}
 use Rattle.walkback.proofs.Settling.{key-bounds}
 
@@ -129,6 +131,11 @@ unfolding blocks
 blocks-bytes r [] h = (tt, tt)
 blocks-bytes r (a ∷ x) h = cuts-bytes r (a ∷ x) h
 
+message-bytes : (rule : Rule) (x : List ℕ) → All 256 x → blocksBytes (messageBlocks rule x)
+unfolding messageBlocks
+message-bytes Crate x h = cuts-bytes 24 x h
+message-bytes Specification x h = blocks-bytes 24 x h
+
 block-steps : (cu : ℕ) (bs : List (List ℕ)) → cu < 256 → blocksBytes bs → allBytes (blockSteps cu bs)
 unfolding blockSteps
 block-steps cu [] h k = tt
@@ -178,14 +185,14 @@ unfolding keyRun
 key-run-bytes key t h k l = all-append 256 key _ k (all-append 256 t _ l (h, tt))
 
 -- the one-byte length of t fits since the lengths were accepted
-pub call-bytes : (m : Mode) (p : Phase) (c : Call) → callNumber m c ≡ 0 → ofBytes c → allBytes (steps m p c)
-unfolding steps callNumber keySteps messageBlocks
-call-bytes m p (absorbs x) n k = absorb-steps p (absorbRate m) 3 x (lit< tt) k
-call-bytes m p (absorbsMore x r) n k = block-steps 0 (cuts r x) (lit< tt) (cuts-bytes r x k)
-call-bytes m p (squeezes l) n k = squeeze-steps m 0x40 l (lit< tt)
-call-bytes m p (squeezesKey l) n k = squeeze-steps m 0x20 l (lit< tt)
-call-bytes m p (squeezesMore l) n k = squeeze-more-steps m l
-call-bytes m p (keys key hasId id hasNonce nonce hasCounter counter) n k =
+pub call-bytes : (rule : Rule) (m : Mode) (p : Phase) (c : Call) → callNumber m c ≡ 0 → ofBytes c → allBytes (steps rule m p c)
+unfolding steps callNumber keySteps
+call-bytes rule m p (absorbs x) n k = absorb-steps p (absorbRate m) 3 x (lit< tt) k
+call-bytes rule m p (absorbsMore x r) n k = block-steps 0 (cuts r x) (lit< tt) (cuts-bytes r x k)
+call-bytes rule m p (squeezes l) n k = squeeze-steps m 0x40 l (lit< tt)
+call-bytes rule m p (squeezesKey l) n k = squeeze-steps m 0x20 l (lit< tt)
+call-bytes rule m p (squeezesMore l) n k = squeeze-more-steps m l
+call-bytes rule m p (keys key hasId id hasNonce nonce hasCounter counter) n k =
     let i = given hasId id in
     let o = given hasNonce nonce in
     let bi = given-bytes hasId id (k .1) in
@@ -197,9 +204,9 @@ call-bytes m p (keys key hasId id hasNonce nonce hasCounter counter) n k =
     (all-steps (ifSteps hasId (absorbSteps Down 44 0 o)) _
     (if-steps hasId (absorbSteps Down 44 0 o) (absorb-steps Down 44 0 o (lit< tt) bo))
     (if-steps hasCounter (absorbSteps Down 1 0 counter) (absorb-steps Down 1 0 counter (lit< tt) (k .3))))
-call-bytes m p (encrypts x) n k = block-steps 0x80 (cuts 24 x) (lit< tt) (cuts-bytes 24 x k)
-call-bytes m p (seals x) n k =
-    all-steps (blockSteps 0x80 (cuts 24 x)) _ (block-steps 0x80 (cuts 24 x) (lit< tt) (cuts-bytes 24 x k)) (squeeze-steps m 0x40 16 (lit< tt))
+call-bytes rule m p (encrypts x) n k = block-steps 0x80 (messageBlocks rule x) (lit< tt) (message-bytes rule x k)
+call-bytes rule m p (seals x) n k =
+    all-steps (blockSteps 0x80 (messageBlocks rule x)) _ (block-steps 0x80 (messageBlocks rule x) (lit< tt) (message-bytes rule x k)) (squeeze-steps m 0x40 16 (lit< tt))
 
 -- ---- the steps on a session: bytes, mode and phase
 unfoldable pub stepped : Step → Duplex → Duplex
@@ -292,6 +299,13 @@ unfolding cuts blockSteps runAll stepped down
 cuts-phase cu r [] d = refl
 cuts-phase cu r (a ∷ x) d = blocks-phase 0 (cut (length x) r (drop r (a ∷ x))) (down (up d cu) (take r (a ∷ x)) 0) refl
 
+message-phase : (rule : Rule) (cu : ℕ) (x : List ℕ) (d : Duplex)
+    → runAll (blockSteps cu (messageBlocks rule x)) d .phase ≡ messagePhase rule (length x) (d .phase)
+unfolding messageBlocks blocks blockSteps runAll stepped down
+message-phase Crate cu x d = cuts-phase cu 24 x d
+message-phase Specification cu [] d = refl
+message-phase Specification cu (a ∷ x) d = cuts-phase cu 24 (a ∷ x) d
+
 absorb-blocks-phase : (bs : List (List ℕ)) (cd : ℕ) (d : Duplex) → d .phase ≡ Down → absorbBlocks bs cd d .phase ≡ Down
 unfolding absorbBlocks down
 absorb-blocks-phase [] cd d e = e
@@ -351,30 +365,30 @@ module _ (d : Duplex) (key : List ℕ) (hasId : Bool) (id nonce : List ℕ) (has
   key-phase = if-phase hasCounter 1 nonced counter nonced-phase
 
 -- ---- every call runs its steps, and ends in the phase said
-pub forward-runs : (c : Call) (d : Duplex) → forward c d ≡ runAll (steps (d .mode) (d .phase) c) d
+pub forward-runs : (rule : Rule) (c : Call) (d : Duplex) → forward rule c d ≡ runAll (steps rule (d .mode) (d .phase) c) d
 unfolding forward steps absorbMore
-forward-runs (absorbs x) d = absorb-runs (absorbRate (d .mode)) 3 d x
-forward-runs (absorbsMore x r) d = more-runs (cuts r x) d
-forward-runs (squeezes n) d = squeeze-runs d n 0x40
-forward-runs (squeezesKey n) d = squeeze-runs d n 0x20
-forward-runs (squeezesMore n) d = squeeze-more-runs d n
-forward-runs (keys key hasId id hasNonce nonce hasCounter counter) d =
+forward-runs rule (absorbs x) d = absorb-runs (absorbRate (d .mode)) 3 d x
+forward-runs rule (absorbsMore x r) d = more-runs (cuts r x) d
+forward-runs rule (squeezes n) d = squeeze-runs d n 0x40
+forward-runs rule (squeezesKey n) d = squeeze-runs d n 0x20
+forward-runs rule (squeezesMore n) d = squeeze-more-runs d n
+forward-runs rule (keys key hasId id hasNonce nonce hasCounter counter) d =
     key-runs d key hasId (given hasId id) (given hasNonce nonce) hasCounter counter
-forward-runs (encrypts x) d = enc-runs (messageBlocks x) 0x80 d
-forward-runs (seals x) d =
-    ap (λ e. squeezeEnd e 16 0x40) (enc-runs (messageBlocks x) 0x80 d)
-    ∙ squeeze-runs (runAll (blockSteps 0x80 (messageBlocks x)) d) 16 0x40
-    ∙ ap (λ m. runAll (squeezeSteps m 0x40 16) (runAll (blockSteps 0x80 (messageBlocks x)) d)) (run-mode (blockSteps 0x80 (messageBlocks x)) d)
-    ∙ sym (run-append (blockSteps 0x80 (messageBlocks x)) _ d)
+forward-runs rule (encrypts x) d = enc-runs (messageBlocks rule x) 0x80 d
+forward-runs rule (seals x) d =
+    ap (λ e. squeezeEnd e 16 0x40) (enc-runs (messageBlocks rule x) 0x80 d)
+    ∙ squeeze-runs (runAll (blockSteps 0x80 (messageBlocks rule x)) d) 16 0x40
+    ∙ ap (λ m. runAll (squeezeSteps m 0x40 16) (runAll (blockSteps 0x80 (messageBlocks rule x)) d)) (run-mode (blockSteps 0x80 (messageBlocks rule x)) d)
+    ∙ sym (run-append (blockSteps 0x80 (messageBlocks rule x)) _ d)
 
-pub forward-phase : (c : Call) (d : Duplex) → forward c d .phase ≡ phaseAfter (d .phase) c
-unfolding forward phaseAfter absorbMore messageBlocks
-forward-phase (absorbs x) d = absorb-phase (absorbRate (d .mode)) 3 d x
-forward-phase (absorbsMore x r) d = ap (λ e. e .phase) (more-runs (cuts r x) d) ∙ cuts-phase 0 r x d
-forward-phase (squeezes n) d = squeeze-phase d n 0x40
-forward-phase (squeezesKey n) d = squeeze-phase d n 0x20
-forward-phase (squeezesMore n) d = more-phase d n
-forward-phase (keys key hasId id hasNonce nonce hasCounter counter) d =
+pub forward-phase : (rule : Rule) (c : Call) (d : Duplex) → forward rule c d .phase ≡ phaseAfter rule (d .phase) c
+unfolding forward phaseAfter absorbMore
+forward-phase rule (absorbs x) d = absorb-phase (absorbRate (d .mode)) 3 d x
+forward-phase rule (absorbsMore x r) d = ap (λ e. e .phase) (more-runs (cuts r x) d) ∙ cuts-phase 0 r x d
+forward-phase rule (squeezes n) d = squeeze-phase d n 0x40
+forward-phase rule (squeezesKey n) d = squeeze-phase d n 0x20
+forward-phase rule (squeezesMore n) d = more-phase d n
+forward-phase rule (keys key hasId id hasNonce nonce hasCounter counter) d =
     key-phase d key hasId (given hasId id) (given hasNonce nonce) hasCounter counter
-forward-phase (encrypts x) d = ap (λ e. e .phase) (enc-runs (cuts 24 x) 0x80 d) ∙ cuts-phase 0x80 24 x d
-forward-phase (seals x) d = squeeze-phase (encEnd (cuts 24 x) 0x80 d) 16 0x40
+forward-phase rule (encrypts x) d = ap (λ e. e .phase) (enc-runs (messageBlocks rule x) 0x80 d) ∙ message-phase rule 0x80 x d
+forward-phase rule (seals x) d = squeeze-phase (encEnd (messageBlocks rule x) 0x80 d) 16 0x40

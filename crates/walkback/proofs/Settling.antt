@@ -10,6 +10,7 @@ use lib.Dec.{ltb}
 use borrow.Author.Tests.{ltb-false, lt-ltb, le-ltb}
 use Rattle.xoodyak.specs.declared.cyclist.Mode.{Mode}
 use Rattle.xoodyak.specs.declared.cyclist.Phase.{Phase}
+use Rattle.xoodyak.specs.declared.Rule.{Rule}
 use Rattle.xoodyak.specs.Cyclist.{absorbRate}
 use Rattle.xoodyak.specs.Numbers.{when, first, keyNumber, rateNumber}
 use Rattle.walkback.specs.declared.Before.{Before}
@@ -83,16 +84,16 @@ key-bounds m k i n h =
     ltb-false 44 (k + 1 + i + n) (when-none _ 8 (first-second b _ (first-second a _ (first-second m (keyNumber k i n) h))))
 
 -- ---- what is handed back
-pub before-taken : (m : Mode) (p : Phase) (c : Call) (st b : List ℕ) (a : Before) → callNumber m c ≡ 0 → b ≡ back m p c st
-    → a ≡ record { st = b; number = 0 } → a ≡ beforeOf m p c st
+pub before-taken : (rule : Rule) (m : Mode) (p : Phase) (c : Call) (st b : List ℕ) (a : Before) → callNumber m c ≡ 0 → b ≡ back rule m p c st
+    → a ≡ record { st = b; number = 0 } → a ≡ beforeOf rule m p c st
 unfolding beforeOf
-before-taken m p c st b a n e h = h ∙ rw (n, e)
+before-taken rule m p c st b a n e h = h ∙ rw (n, e)
 
 settled-pos : (n : ℕ) (st b : List ℕ) → 0 < n → settled n st b ≡ record { st = st; number = n }
 settled-pos zero st b h = absurd (not-suc-le-zero h)
 settled-pos (suc n) st b h = refl
 
-pub before-refused : (m : Mode) (p : Phase) (c : Call) (st : List ℕ) (n : ℕ) (a : Before) → n ≡ callNumber m c → 0 < n
-    → a ≡ record { st = st; number = n } → a ≡ beforeOf m p c st
+pub before-refused : (rule : Rule) (m : Mode) (p : Phase) (c : Call) (st : List ℕ) (n : ℕ) (a : Before) → n ≡ callNumber m c → 0 < n
+    → a ≡ record { st = st; number = n } → a ≡ beforeOf rule m p c st
 unfolding beforeOf
-before-refused m p c st n a e h g = g ∙ rw (← e) (sym (settled-pos n st (back m p c st) h))
+before-refused rule m p c st n a e h g = g ∙ rw (← e) (sym (settled-pos n st (back rule m p c st) h))

@@ -10,6 +10,8 @@ use Rattle.xoodyak.specs.declared.cyclist.Mode.{Mode}
 use Rattle.xoodyak.specs.declared.cyclist.Phase.{Phase}
 use Rattle.xoodyak.specs.declared.cyclist.Phase.the-variants.{Up, Down}
 use Rattle.xoodyak.specs.declared.cyclist.Duplex.{Duplex}
+use Rattle.xoodyak.specs.declared.Rule.{Rule}
+use Rattle.xoodyak.specs.declared.Rule.the-variants.{Crate, Specification}
 use Rattle.xoodyak.specs.Cyclist.{absorbRate, absorb, absorbMore, squeezeEnd, squeezeMoreEnd, messageBlocks, encEnd, given, chosen, keyCall}
 use Rattle.xoodyak.specs.Numbers.{first, modeNumber, keyNumber, rateNumber}
 use Rattle.walkback.specs.declared.Before.{Before}
@@ -41,17 +43,17 @@ callNumber m (keys key hasId id hasNonce nonce hasCounter counter) =
 callNumber m (encrypts x) = modeNumber m
 callNumber m (seals x) = modeNumber m
 
--- what an accepted call does to the session
-unfoldable pub forward : Call → Duplex → Duplex
-forward (absorbs x) d = absorb (absorbRate (d .mode)) 3 d x
-forward (absorbsMore x r) d = absorbMore r d x
-forward (squeezes n) d = squeezeEnd d n 0x40
-forward (squeezesKey n) d = squeezeEnd d n 0x20
-forward (squeezesMore n) d = squeezeMoreEnd d n
-forward (keys key hasId id hasNonce nonce hasCounter counter) d =
+-- what an accepted call does to a session with this rule
+unfoldable pub forward : Rule → Call → Duplex → Duplex
+forward rule (absorbs x) d = absorb (absorbRate (d .mode)) 3 d x
+forward rule (absorbsMore x r) d = absorbMore r d x
+forward rule (squeezes n) d = squeezeEnd d n 0x40
+forward rule (squeezesKey n) d = squeezeEnd d n 0x20
+forward rule (squeezesMore n) d = squeezeMoreEnd d n
+forward rule (keys key hasId id hasNonce nonce hasCounter counter) d =
     keyCall d key hasId (given hasId id) (given hasNonce nonce) hasCounter counter
-forward (encrypts x) d = encEnd (messageBlocks x) 0x80 d
-forward (seals x) d = squeezeEnd (encEnd (messageBlocks x) 0x80 d) 16 0x40
+forward rule (encrypts x) d = encEnd (messageBlocks rule x) 0x80 d
+forward rule (seals x) d = squeezeEnd (encEnd (messageBlocks rule x) 0x80 d) 16 0x40
 
 -- the steps if the flag says so, none otherwise
 abbrev pub ifSteps : Bool → List Step → List Step
@@ -68,74 +70,79 @@ keySteps p key hasId id nonce hasCounter counter =
     absorbSteps p 44 2 (keyRun key (chosen hasId id nonce))
     ++ (ifSteps hasId (absorbSteps Down 44 0 nonce) ++ ifSteps hasCounter (absorbSteps Down 1 0 counter))
 
--- the steps of an accepted call, from the mode and the phase before it
-unfoldable pub steps : Mode → Phase → Call → List Step
-steps m p (absorbs x) = absorbSteps p (absorbRate m) 3 x
-steps m p (absorbsMore x r) = blockSteps 0 (cuts r x)
-steps m p (squeezes n) = squeezeSteps m 0x40 n
-steps m p (squeezesKey n) = squeezeSteps m 0x20 n
-steps m p (squeezesMore n) = squeezeMoreSteps m n
-steps m p (keys key hasId id hasNonce nonce hasCounter counter) =
+-- the steps of an accepted call, from the rule, the mode and the phase before it
+unfoldable pub steps : Rule → Mode → Phase → Call → List Step
+steps rule m p (absorbs x) = absorbSteps p (absorbRate m) 3 x
+steps rule m p (absorbsMore x r) = blockSteps 0 (cuts r x)
+steps rule m p (squeezes n) = squeezeSteps m 0x40 n
+steps rule m p (squeezesKey n) = squeezeSteps m 0x20 n
+steps rule m p (squeezesMore n) = squeezeMoreSteps m n
+steps rule m p (keys key hasId id hasNonce nonce hasCounter counter) =
     keySteps p key hasId (given hasId id) (given hasNonce nonce) hasCounter counter
-steps m p (encrypts x) = blockSteps 0x80 (messageBlocks x)
-steps m p (seals x) = blockSteps 0x80 (messageBlocks x) ++ squeezeSteps m 0x40 16
+steps rule m p (encrypts x) = blockSteps 0x80 (messageBlocks rule x)
+steps rule m p (seals x) = blockSteps 0x80 (messageBlocks rule x) ++ squeezeSteps m 0x40 16
 
 -- the 48 bytes before an accepted call
-unfoldable pub back : Mode → Phase → Call → List ℕ → List ℕ
-back m p c st = undo m (steps m p c) st
+unfoldable pub back : Rule → Mode → Phase → Call → List ℕ → List ℕ
+back rule m p c st = undo m (steps rule m p c) st
 
 -- what a step back hands back: refused, the 48 bytes given
 abbrev pub settled : ℕ → List ℕ → List ℕ → Before
 settled zero st b = record { st = b; number = 0 }
 settled (suc n) st b = record { st = st; number = suc n }
 
-unfoldable pub beforeOf : Mode → Phase → Call → List ℕ → Before
-beforeOf m p c st = settled (callNumber m c) st (back m p c st)
+unfoldable pub beforeOf : Rule → Mode → Phase → Call → List ℕ → Before
+beforeOf rule m p c st = settled (callNumber m c) st (back rule m p c st)
 
--- ---- the phase after an accepted call, from its kind and the length of its input or output
+-- ---- the phase after an accepted call, from the rule, its kind and the length of its input or output
 abbrev pub unlessEmpty : ℕ → Phase → Phase → Phase
 unlessEmpty zero p q = p
 unlessEmpty (suc n) p q = q
 
-abbrev pub phaseOf : Phase → Kind → ℕ → Phase
-phaseOf p Absorb n = Down
-phaseOf p AbsorbMore n = unlessEmpty n p Down
-phaseOf p Squeeze n = Up
-phaseOf p SqueezeKey n = Up
-phaseOf p SqueezeMore n = unlessEmpty n p Up
-phaseOf p Key n = Down
-phaseOf p Encrypt n = unlessEmpty n p Down
-phaseOf p Seal n = Up
+-- a message: an empty one has no block under the crate rule
+abbrev pub messagePhase : Rule → ℕ → Phase → Phase
+messagePhase Crate n p = unlessEmpty n p Down
+messagePhase Specification n p = Down
+
+abbrev pub phaseOf : Rule → Phase → Kind → ℕ → Phase
+phaseOf rule p Absorb n = Down
+phaseOf rule p AbsorbMore n = unlessEmpty n p Down
+phaseOf rule p Squeeze n = Up
+phaseOf rule p SqueezeKey n = Up
+phaseOf rule p SqueezeMore n = unlessEmpty n p Up
+phaseOf rule p Key n = Down
+phaseOf rule p Encrypt n = messagePhase rule n p
+phaseOf rule p Seal n = Up
 
 -- the same of a call
-unfoldable pub phaseAfter : Phase → Call → Phase
-phaseAfter p (absorbs x) = phaseOf p Absorb (length x)
-phaseAfter p (absorbsMore x r) = phaseOf p AbsorbMore (length x)
-phaseAfter p (squeezes n) = phaseOf p Squeeze n
-phaseAfter p (squeezesKey n) = phaseOf p SqueezeKey n
-phaseAfter p (squeezesMore n) = phaseOf p SqueezeMore n
-phaseAfter p (keys key hasId id hasNonce nonce hasCounter counter) = phaseOf p Key (length key)
-phaseAfter p (encrypts x) = phaseOf p Encrypt (length x)
-phaseAfter p (seals x) = phaseOf p Seal (length x)
+unfoldable pub phaseAfter : Rule → Phase → Call → Phase
+phaseAfter rule p (absorbs x) = phaseOf rule p Absorb (length x)
+phaseAfter rule p (absorbsMore x r) = phaseOf rule p AbsorbMore (length x)
+phaseAfter rule p (squeezes n) = phaseOf rule p Squeeze n
+phaseAfter rule p (squeezesKey n) = phaseOf rule p SqueezeKey n
+phaseAfter rule p (squeezesMore n) = phaseOf rule p SqueezeMore n
+phaseAfter rule p (keys key hasId id hasNonce nonce hasCounter counter) = phaseOf rule p Key (length key)
+phaseAfter rule p (encrypts x) = phaseOf rule p Encrypt (length x)
+phaseAfter rule p (seals x) = phaseOf rule p Seal (length x)
 
 -- ---- lists of calls
-unfoldable pub forwardAll : List Call → Duplex → Duplex
-forwardAll [] d = d
-forwardAll (c ∷ cs) d = forwardAll cs (forward c d)
+unfoldable pub forwardAll : Rule → List Call → Duplex → Duplex
+forwardAll rule [] d = d
+forwardAll rule (c ∷ cs) d = forwardAll rule cs (forward rule c d)
 
--- the phase after all of them, and the phase before each, from the first phase and the calls before it
-unfoldable pub phaseAfterAll : Phase → List Call → Phase
-phaseAfterAll p [] = p
-phaseAfterAll p (c ∷ cs) = phaseAfterAll (phaseAfter p c) cs
+-- the phase after all of them, and the phase before each, from the rule, the first phase and the calls before it
+unfoldable pub phaseAfterAll : Rule → Phase → List Call → Phase
+phaseAfterAll rule p [] = p
+phaseAfterAll rule p (c ∷ cs) = phaseAfterAll rule (phaseAfter rule p c) cs
 
-unfoldable pub phasesAlong : Phase → List Call → List Phase
-phasesAlong p [] = []
-phasesAlong p (c ∷ cs) = p ∷ phasesAlong (phaseAfter p c) cs
+unfoldable pub phasesAlong : Rule → Phase → List Call → List Phase
+phasesAlong rule p [] = []
+phasesAlong rule p (c ∷ cs) = p ∷ phasesAlong rule (phaseAfter rule p c) cs
 
 -- the last call is undone first
-unfoldable pub backAll : Mode → Phase → List Call → List ℕ → List ℕ
-backAll m p [] st = st
-backAll m p (c ∷ cs) st = back m p c (backAll m (phaseAfter p c) cs st)
+unfoldable pub backAll : Rule → Mode → Phase → List Call → List ℕ → List ℕ
+backAll rule m p [] st = st
+backAll rule m p (c ∷ cs) st = back rule m p c (backAll rule m (phaseAfter rule p c) cs st)
 
 -- every input of the call is a list of bytes
 abbrev pub ofBytes : Call → Type 0

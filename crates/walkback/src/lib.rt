@@ -4,7 +4,7 @@ mod numbers;
 mod steps;
 
 ghost use mathlib.Core.Path.{_≡_};
-ghost use Rattle.walkback.specs.Walk.{absorbs, absorbsMore, squeezes, squeezesKey, squeezesMore, keys, encrypts, seals, beforeOf, phaseOf, unlessEmpty};
+ghost use Rattle.walkback.specs.Walk.{absorbs, absorbsMore, squeezes, squeezesKey, squeezesMore, keys, encrypts, seals, beforeOf, phaseOf, messagePhase, unlessEmpty};
 use bytes::or_empty;
 use numbers::absorb_rate;
 use numbers::first;
@@ -14,8 +14,10 @@ use numbers::rate_number;
 use steps::undo_absorb;
 use steps::undo_blocks;
 use steps::undo_key;
+use steps::undo_message;
 use steps::undo_squeeze;
 use steps::undo_squeeze_more;
+use xoodyak::Rule;
 use xoodyak::cyclist::Mode;
 use xoodyak::cyclist::Phase;
 
@@ -51,15 +53,22 @@ fn refused(given: [u8; 48], number: u8) -> Before
     }
 }
 
-pub fn absorb(st: [u8; 48], mode: Mode, phase: Phase, bin: &[u8]) -> Before
-    ensures { λ r. ⌜ r ≡ beforeOf mode phase (absorbs (now (bin .entry))) st ⌝ }
+pub fn absorb(st: [u8; 48], rule: Rule, mode: Mode, phase: Phase, bin: &[u8]) -> Before
+    ensures { λ r. ⌜ r ≡ beforeOf rule mode phase (absorbs (now (bin .entry))) st ⌝ }
 {
     let rate = absorb_rate(mode);
     accepted(undo_absorb(st, mode, phase, bin, rate, 0x03))
 }
 
-pub fn absorb_more(st: [u8; 48], mode: Mode, phase: Phase, bin: &[u8], rate: usize) -> Before
-    ensures { λ r. ⌜ r ≡ beforeOf mode phase (absorbsMore (now (bin .entry)) rate) st ⌝ }
+pub fn absorb_more(
+    st: [u8; 48],
+    rule: Rule,
+    mode: Mode,
+    phase: Phase,
+    bin: &[u8],
+    rate: usize,
+) -> Before
+    ensures { λ r. ⌜ r ≡ beforeOf rule mode phase (absorbsMore (now (bin .entry)) rate) st ⌝ }
 {
     let number = rate_number(mode, rate);
     if number != 0 {
@@ -68,26 +77,27 @@ pub fn absorb_more(st: [u8; 48], mode: Mode, phase: Phase, bin: &[u8], rate: usi
     accepted(undo_blocks(st, mode, bin, rate, 0))
 }
 
-pub fn squeeze(st: [u8; 48], mode: Mode, phase: Phase, n: usize) -> Before
-    ensures { λ r. ⌜ r ≡ beforeOf mode phase (squeezes n) st ⌝ }
+pub fn squeeze(st: [u8; 48], rule: Rule, mode: Mode, phase: Phase, n: usize) -> Before
+    ensures { λ r. ⌜ r ≡ beforeOf rule mode phase (squeezes n) st ⌝ }
 {
     accepted(undo_squeeze(st, mode, n, 0x40))
 }
 
-pub fn squeeze_key(st: [u8; 48], mode: Mode, phase: Phase, n: usize) -> Before
-    ensures { λ r. ⌜ r ≡ beforeOf mode phase (squeezesKey n) st ⌝ }
+pub fn squeeze_key(st: [u8; 48], rule: Rule, mode: Mode, phase: Phase, n: usize) -> Before
+    ensures { λ r. ⌜ r ≡ beforeOf rule mode phase (squeezesKey n) st ⌝ }
 {
     accepted(undo_squeeze(st, mode, n, 0x20))
 }
 
-pub fn squeeze_more(st: [u8; 48], mode: Mode, phase: Phase, n: usize) -> Before
-    ensures { λ r. ⌜ r ≡ beforeOf mode phase (squeezesMore n) st ⌝ }
+pub fn squeeze_more(st: [u8; 48], rule: Rule, mode: Mode, phase: Phase, n: usize) -> Before
+    ensures { λ r. ⌜ r ≡ beforeOf rule mode phase (squeezesMore n) st ⌝ }
 {
     accepted(undo_squeeze_more(st, mode, n))
 }
 
 pub fn key<'a>(
     st: [u8; 48],
+    rule: Rule,
     mode: Mode,
     phase: Phase,
     key: &[u8],
@@ -98,7 +108,7 @@ pub fn key<'a>(
     has_counter: bool,
     counter: &[u8],
 ) -> Before
-    ensures { λ r. ⌜ r ≡ beforeOf mode phase (keys (now (key .entry)) «has_id» (now (id .entry)) «has_nonce» (now (nonce .entry)) «has_counter» (now (counter .entry))) st ⌝ }
+    ensures { λ r. ⌜ r ≡ beforeOf rule mode phase (keys (now (key .entry)) «has_id» (now (id .entry)) «has_nonce» (now (nonce .entry)) «has_counter» (now (counter .entry))) st ⌝ }
 {
     let i = or_empty(has_id, id);
     let m = or_empty(has_nonce, nonce);
@@ -109,25 +119,25 @@ pub fn key<'a>(
     accepted(undo_key(st, mode, phase, key, has_id, i, m, has_counter, counter))
 }
 
-pub fn encrypt(st: [u8; 48], mode: Mode, phase: Phase, plaintext: &[u8]) -> Before
-    ensures { λ r. ⌜ r ≡ beforeOf mode phase (encrypts (now (plaintext .entry))) st ⌝ }
+pub fn encrypt(st: [u8; 48], rule: Rule, mode: Mode, phase: Phase, plaintext: &[u8]) -> Before
+    ensures { λ r. ⌜ r ≡ beforeOf rule mode phase (encrypts (now (plaintext .entry))) st ⌝ }
 {
     let number = mode_number(mode);
     if number != 0 {
         return refused(st, number);
     }
-    accepted(undo_blocks(st, mode, plaintext, 24, 0x80))
+    accepted(undo_message(st, rule, mode, plaintext))
 }
 
-pub fn seal(st: [u8; 48], mode: Mode, phase: Phase, plaintext: &[u8]) -> Before
-    ensures { λ r. ⌜ r ≡ beforeOf mode phase (seals (now (plaintext .entry))) st ⌝ }
+pub fn seal(st: [u8; 48], rule: Rule, mode: Mode, phase: Phase, plaintext: &[u8]) -> Before
+    ensures { λ r. ⌜ r ≡ beforeOf rule mode phase (seals (now (plaintext .entry))) st ⌝ }
 {
     let number = mode_number(mode);
     if number != 0 {
         return refused(st, number);
     }
     let b = undo_squeeze(st, mode, 16, 0x40);
-    accepted(undo_blocks(b, mode, plaintext, 24, 0x80))
+    accepted(undo_message(b, rule, mode, plaintext))
 }
 
 fn unless_empty(n: usize, before: Phase, after: Phase) -> Phase
@@ -136,9 +146,19 @@ fn unless_empty(n: usize, before: Phase, after: Phase) -> Phase
     if n == 0 { before } else { after }
 }
 
-// The phase after an accepted call, from the phase before it, its kind and the length of its input or output.
-pub fn phase_after(phase: Phase, kind: Kind, n: usize) -> Phase
-    ensures { λ r. ⌜ r ≡ phaseOf phase kind n ⌝ }
+// The phase after a message; an empty one has no block under the crate rule.
+fn message_phase(rule: Rule, n: usize, before: Phase) -> Phase
+    ensures { λ r. ⌜ r ≡ messagePhase rule n before ⌝ }
+{
+    match rule {
+        Rule::Crate => unless_empty(n, before, Phase::Down),
+        Rule::Specification => Phase::Down,
+    }
+}
+
+// The phase after an accepted call, from the rule, the phase before it, its kind and the length of its input or output.
+pub fn phase_after(rule: Rule, phase: Phase, kind: Kind, n: usize) -> Phase
+    ensures { λ r. ⌜ r ≡ phaseOf rule phase kind n ⌝ }
 {
     match kind {
         Kind::Absorb => Phase::Down,
@@ -147,7 +167,7 @@ pub fn phase_after(phase: Phase, kind: Kind, n: usize) -> Phase
         Kind::SqueezeKey => Phase::Up,
         Kind::SqueezeMore => unless_empty(n, phase, Phase::Up),
         Kind::Key => Phase::Down,
-        Kind::Encrypt => unless_empty(n, phase, Phase::Down),
+        Kind::Encrypt => message_phase(rule, n, phase),
         Kind::Seal => Phase::Up,
     }
 }

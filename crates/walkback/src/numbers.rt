@@ -1,7 +1,8 @@
-// The numbers of refusals, 0 being success, and the rates of a mode.
+// The numbers of refusals, 0 being success, the rates of a mode, and whether a message is one empty block.
 ghost use mathlib.Core.Path.{_≡_};
-ghost use Rattle.xoodyak.specs.Cyclist.{absorbRate, squeezeRate};
+ghost use Rattle.xoodyak.specs.Cyclist.{absorbRate, squeezeRate, emptyBlock};
 ghost use Rattle.xoodyak.specs.Numbers.{first, modeNumber, keyNumber, rateNumber};
+use xoodyak::Rule;
 use xoodyak::cyclist::Mode;
 
 pub(crate) fn absorb_rate(mode: Mode) -> usize
@@ -19,6 +20,15 @@ pub(crate) fn squeeze_rate(mode: Mode) -> usize
     match mode {
         Mode::Hash => 16,
         Mode::Keyed => 24,
+    }
+}
+
+pub(crate) fn is_empty_block(rule: Rule, n: usize) -> bool
+    ensures { λ r. ⌜ r ≡ emptyBlock rule n ⌝ }
+{
+    match rule {
+        Rule::Crate => false,
+        Rule::Specification => n == 0,
     }
 }
 

@@ -5,14 +5,16 @@ ghost use Prim.Native.Nat.{_+_, _≤_, _<_};
 ghost use lib.ListN.{length};
 ghost use Rattle.laws.specs.Lists.{addFront, addAt};
 ghost use Rattle.laws.specs.Blocks.{cuts};
-ghost use Rattle.xoodyak.specs.Cyclist.{downColour};
+ghost use Rattle.xoodyak.specs.Cyclist.{downColour, messageBlocks};
 ghost use Rattle.walkback.specs.Steps.{upStep, downStep, undoes, undo, blockSteps, readySteps, absorbSteps, squeezeSteps, squeezeMoreSteps};
 ghost use Rattle.walkback.specs.Walk.{keyRun, keySteps};
 use crate::bytes::choose;
 use crate::bytes::last_block;
 use crate::bytes::least;
+use crate::numbers::is_empty_block;
 use crate::numbers::squeeze_rate;
 use xoodoo::Xoodoo;
+use xoodyak::Rule;
 use xoodyak::cyclist::Mode;
 use xoodyak::cyclist::Phase;
 
@@ -104,6 +106,16 @@ pub(crate) fn undo_blocks(st: [u8; 48], mode: Mode, bin: &[u8], rate: usize, cu:
         left = left - k;
     }
     b
+}
+
+// The blocks of a message, in the number that the rule gives it.
+pub(crate) fn undo_message(st: [u8; 48], rule: Rule, mode: Mode, plaintext: &[u8]) -> [u8; 48]
+    ensures { λ r. ⌜ r ≡ undo mode (blockSteps 0x80 (messageBlocks rule (now (plaintext .entry)))) st ⌝ }
+{
+    if is_empty_block(rule, plaintext.len()) {
+        return undo_block(st, mode, plaintext, 0x80);
+    }
+    undo_blocks(st, mode, plaintext, 24, 0x80)
 }
 
 pub(crate) fn undo_absorb(

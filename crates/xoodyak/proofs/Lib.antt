@@ -1,5 +1,6 @@
 -- Laws of sessions that the functions' proofs cite.
 pub mod Turns
+pub mod Message
 pub mod Same
 pub mod Settle
 pub mod Sealing

@@ -8,6 +8,7 @@ use Rattle.xoodyak.specs.declared.cyclist.Mode.{Mode}
 use Rattle.xoodyak.specs.declared.cyclist.Mode.the-variants.{Hash, Keyed}
 use Rattle.xoodyak.specs.declared.cyclist.Duplex.{Duplex}
 use Rattle.xoodyak.specs.declared.tag.Tag.{Tag}
+use Rattle.xoodyak.specs.declared.Rule.{Rule}
 use Rattle.xoodyak.specs.declared.Session.{Session}
 use Rattle.xoodyak.specs.declared.Answer.{Answer}
 use Rattle.xoodyak.specs.declared.Sealed.{Sealed}
@@ -49,12 +50,12 @@ settleRoom before room result s o x =
     let n = first before (roomNumber room result) in
     settle n (missing n room result) s o x
 
--- a session made new, and one whose bytes and phase moved on
-abbrev pub session : Mode → Session
-session m = record { duplex = fresh m }
+-- a session made new under a rule, and one whose bytes and phase moved on
+abbrev pub session : Rule → Mode → Session
+session rule m = record { duplex = fresh m; rule = rule }
 
 abbrev pub onward : Session → Duplex → Session
-onward s d = record { duplex = d }
+onward s d = record { duplex = d; rule = s .rule }
 
 abbrev pub mode : Session → Mode
 mode s = s .duplex .mode
@@ -79,27 +80,27 @@ keyOf s key hasId id hasNonce nonce hasCounter counter =
     settle (first (modeNumber (mode s)) (keyNumber (length key) (length (given hasId id)) (length (given hasNonce nonce)))) 0 s []
     (taken (onward s (keyCall (s .duplex) key hasId (given hasId id) (given hasNonce nonce) hasCounter counter)) noTag [])
 
--- refused, it hands back a fresh Hash session
-unfoldable pub newOf : List ℕ → Bool → List ℕ → Bool → List ℕ → Bool → List ℕ → Outcome
-newOf key hasNonce nonce hasId id hasCounter counter =
-    settle (keyNumber (length key) (length (given hasId id)) (length (given hasNonce nonce))) 0 (session Hash) []
-    (taken (onward (session Keyed) (keyCall (fresh Keyed) key hasId (given hasId id) (given hasNonce nonce) hasCounter counter)) noTag [])
+-- refused, it hands back a fresh Hash session with that rule
+unfoldable pub newOf : Rule → List ℕ → Bool → List ℕ → Bool → List ℕ → Bool → List ℕ → Outcome
+newOf rule key hasNonce nonce hasId id hasCounter counter =
+    settle (keyNumber (length key) (length (given hasId id)) (length (given hasNonce nonce))) 0 (session rule Hash) []
+    (taken (onward (session rule Keyed) (keyCall (fresh Keyed) key hasId (given hasId id) (given hasNonce nonce) hasCounter counter)) noTag [])
 
 unfoldable pub ratchetOf : Session → Outcome
 ratchetOf s = settle (modeNumber (mode s)) 0 s [] (taken (onward s (ratchet (s .duplex))) noTag [])
 
--- a message encrypted or decrypted: the first Up has 80
+-- a message encrypted or decrypted, in the blocks that the session's rule gives it: the first Up has 80
 unfoldable pub encryptEnd : Session → List ℕ → Session
-encryptEnd s m = onward s (encEnd (messageBlocks m) 0x80 (s .duplex))
+encryptEnd s m = onward s (encEnd (messageBlocks (s .rule) m) 0x80 (s .duplex))
 
 unfoldable pub encryptOut : Session → List ℕ → List ℕ
-encryptOut s m = encOut (messageBlocks m) 0x80 (s .duplex)
+encryptOut s m = encOut (messageBlocks (s .rule) m) 0x80 (s .duplex)
 
 unfoldable pub decryptEnd : Session → List ℕ → Session
-decryptEnd s c = onward s (decEnd (messageBlocks c) 0x80 (s .duplex))
+decryptEnd s c = onward s (decEnd (messageBlocks (s .rule) c) 0x80 (s .duplex))
 
 unfoldable pub decryptOut : Session → List ℕ → List ℕ
-decryptOut s c = decOut (messageBlocks c) 0x80 (s .duplex)
+decryptOut s c = decOut (messageBlocks (s .rule) c) 0x80 (s .duplex)
 
 -- bytes past the result keep what they held
 unfoldable pub encryptOf : Session → List ℕ → List ℕ → Outcome

@@ -2,6 +2,7 @@
 use mathlib.Core.Bool.{Bool, true, false}
 use mathlib.Core.List.{List, [], _∷_, _++_}
 use Prim.Native.Nat.{ℕ, _-_, min}
+use lib.Dec.{eqb}
 use lib.ListN.{length, replicate, take}
 use Rattle.laws.specs.Words.{_⊙_}
 use Rattle.laws.specs.Lists.{addFront, addAt}
@@ -12,6 +13,8 @@ use Rattle.xoodyak.specs.declared.cyclist.Mode.the-variants.{Hash, Keyed
 use Rattle.xoodyak.specs.declared.cyclist.Phase.{Phase}
 use Rattle.xoodyak.specs.declared.cyclist.Phase.the-variants.{Up, Down}
 use Rattle.xoodyak.specs.declared.cyclist.Duplex.{Duplex}
+use Rattle.xoodyak.specs.declared.Rule.{Rule}
+use Rattle.xoodyak.specs.declared.Rule.the-variants.{Crate, Specification}
 
 -- all zero, phase Up
 abbrev pub fresh : Mode → Duplex
@@ -99,9 +102,15 @@ squeezeEnd d n cu = squeezeMoreEnd (up d cu) (n - squeezeRate (d .mode))
 unfoldable pub squeezeOut : Duplex → ℕ → ℕ → List ℕ
 squeezeOut d n cu = take (min (squeezeRate (d .mode)) n) (up d cu .st) ++ squeezeMoreOut (up d cu) (n - squeezeRate (d .mode))
 
--- the blocks of a message: an empty message has none, since the Rust decides
-unfoldable pub messageBlocks : List ℕ → List (List ℕ)
-messageBlocks m = cuts 24 m
+-- the blocks of a message: an empty one has none under the crate rule, since the Rust decides, and one empty block under the specification's
+unfoldable pub messageBlocks : Rule → List ℕ → List (List ℕ)
+messageBlocks Crate m = cuts 24 m
+messageBlocks Specification m = blocks 24 m
+
+-- whether a message of n bytes is that empty block
+abbrev pub emptyBlock : Rule → ℕ → Bool
+emptyBlock Crate n = false
+emptyBlock Specification n = eqb n 0
 
 -- encrypt: Up with cu, the block xor its answer, Down with the plaintext block; 00 after the first block
 unfoldable pub encEnd : List (List ℕ) → ℕ → Duplex → Duplex

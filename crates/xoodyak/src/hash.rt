@@ -3,16 +3,18 @@ ghost use mathlib.Core.Path.{_≡_};
 ghost use Rattle.xoodyak.specs.declared.cyclist.Mode.the-variants.{Hash};
 ghost use Rattle.xoodyak.specs.Calls.{session, answerOf, absorbOf, absorbMoreOf, squeezeOf, squeezeMoreOf};
 use crate::Answer;
+use crate::Rule;
 use crate::Session;
 use crate::cyclist::Duplex;
 use crate::cyclist::Mode;
 
 impl Session {
-    pub fn hash() -> Session
-        ensures { λ r. ⌜ r ≡ session Hash ⌝ }
+    pub fn hash(rule: Rule) -> Session
+        ensures { λ r. ⌜ r ≡ session rule Hash ⌝ }
     {
         Session {
             duplex: Duplex::fresh(Mode::Hash),
+            rule: rule,
         }
     }
 

@@ -5,9 +5,10 @@ ghost use Prim.Native.Nat.{_+_, _≤_};
 ghost use lib.ListN.{length, take};
 ghost use Rattle.laws.specs.Lists.{addFront};
 ghost use Rattle.laws.specs.Blocks.{cuts};
-ghost use Rattle.xoodyak.specs.Cyclist.{up, down, ratchet, keyCall, encEnd, encOut, decEnd, decOut};
+ghost use Rattle.xoodyak.specs.Cyclist.{up, down, ratchet, keyCall, emptyBlock, encEnd, encOut, decEnd, decOut};
 ghost use Rattle.xoodyak.specs.Calls.{answerOf, keyOf, newOf, ratchetOf, encryptEnd, encryptOut, decryptEnd, decryptOut, encryptOf, decryptOf, encryptInPlaceOf, decryptInPlaceOf};
 use crate::Answer;
+use crate::Rule;
 use crate::Session;
 use crate::bytes::choose;
 use crate::bytes::copy_into;
@@ -73,6 +74,13 @@ impl Duplex {
         d.absorb_any(&rolled, 16, 0)
     }
 
+    // The one block of an empty message under the specification's rule: Up(0, 80), Down(empty, 00).
+    pub(crate) fn empty_block(self) -> Duplex
+        ensures { λ r. ⌜ r ≡ down (up self 0x80) [] 0 ⌝ }
+    {
+        self.up(0x80).down(b"", 0)
+    }
+
     // One block, encrypted where it lies.
     fn encrypt_block(self, buf: &mut [u8], cu: u8) -> Duplex
         requires { ⌜ length (now buf) ≤ 24 ⌝ }
@@ -136,11 +144,25 @@ impl Duplex {
 }
 
 impl Session {
+    // Whether a message of n bytes is one empty block.
+    pub(crate) fn is_empty_block(self, n: usize) -> bool
+        ensures { λ r. ⌜ r ≡ emptyBlock (self .rule) n ⌝ }
+    {
+        let rule = self.rule;
+        match rule {
+            Rule::Crate => false,
+            Rule::Specification => n == 0,
+        }
+    }
+
     pub(crate) fn encrypt_message(self, buf: &mut [u8]) -> Session
         ensures { λ r. ⌜ r ≡ encryptEnd self (now (buf .entry)) ⌝ }
         ensures { λ _. ⌜ now (buf .exit) ≡ encryptOut self (now (buf .entry)) ⌝ }
     {
         let d = self.duplex;
+        if self.is_empty_block(buf.len()) {
+            return self.onward(d.empty_block());
+        }
         self.onward(d.encrypt_blocks(buf))
     }
 
@@ -149,11 +171,15 @@ impl Session {
         ensures { λ _. ⌜ now (buf .exit) ≡ decryptOut self (now (buf .entry)) ⌝ }
     {
         let d = self.duplex;
+        if self.is_empty_block(buf.len()) {
+            return self.onward(d.empty_block());
+        }
         self.onward(d.decrypt_blocks(buf))
     }
 
-    // Refused, it hands back a fresh Hash session.
+    // Refused, it hands back a fresh Hash session with that rule.
     pub fn new<'a>(
+        rule: Rule,
         key: &[u8],
         has_nonce: bool,
         nonce: &'a [u8],
@@ -162,12 +188,12 @@ impl Session {
         has_counter: bool,
         counter: &[u8],
     ) -> Answer
-        ensures { λ r. ⌜ r ≡ answerOf (newOf (now (key .entry)) «has_nonce» (now (nonce .entry)) «has_id» (now (id .entry)) «has_counter» (now (counter .entry))) ⌝ }
+        ensures { λ r. ⌜ r ≡ answerOf (newOf rule (now (key .entry)) «has_nonce» (now (nonce .entry)) «has_id» (now (id .entry)) «has_counter» (now (counter .entry))) ⌝ }
     {
         let i = or_empty(has_id, id);
         let m = or_empty(has_nonce, nonce);
         let number = key_number(key.len(), i.len(), m.len());
-        let refused = Session::hash();
+        let refused = Session::hash(rule);
         if number != 0 {
             return refused.answer(number);
         }

@@ -12,8 +12,16 @@ ghost use Rattle.xoodyak.specs.Calls.{onward};
 use cyclist::Duplex;
 use tag::Tag;
 
+// Whose rule an empty message follows: the crate's, where it does nothing, or the specification's, where it runs one
+// empty block.
+pub enum Rule {
+    Crate,
+    Specification,
+}
+
 pub struct Session {
     pub duplex: Duplex,
+    pub rule: Rule,
 }
 
 // What a call hands back: the session, 0 or the number of the refusal, and with 3 how many bytes the output lacks.
@@ -32,11 +40,15 @@ pub struct Sealed {
 }
 
 impl Session {
-    // The session with its bytes and phase moved on.
+    // The session with its bytes and phase moved on; its rule stays.
     pub(crate) fn onward(self, duplex: Duplex) -> Session
         ensures { λ r. ⌜ r ≡ onward self duplex ⌝ }
     {
-        Session { duplex: duplex }
+        let rule = self.rule;
+        Session {
+            duplex: duplex,
+            rule: rule,
+        }
     }
 
     pub(crate) fn answer(self, number: u8) -> Answer

@@ -24,7 +24,7 @@ returns : tie.Need-returns
 unfolding callNumber steps back
 returns c =
     let a = c .before .before .before .before .args in
-    before-taken (a .mode) (a .phase) (absorbs (now (a .bin))) (a .st) _ _ refl
+    before-taken (a .rule) (a .mode) (a .phase) (absorbs (now (a .bin))) (a .st) _ _ refl
     (rw (← c .before .before .absorb-rate .ensures) (c .before .undo-absorb .ensures))
     (c .accepted .ensures)
 

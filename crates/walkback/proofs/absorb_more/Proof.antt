@@ -18,7 +18,7 @@ returns : tie.Need-returns
 unfolding callNumber
 returns c =
     let a = c .before .before .before .before .args in
-    before-refused (a .mode) (a .phase) (absorbsMore (now (a .bin)) (a .rate)) (a .st) _ _ (c .before .before .rate-number .ensures) (omega arith) (c .refused .ensures)
+    before-refused (a .rule) (a .mode) (a .phase) (absorbsMore (now (a .bin)) (a .rate)) (a .st) _ _ (c .before .before .rate-number .ensures) (omega arith) (c .refused .ensures)
 
 undo-blocks-requires : tie.Need-undo-blocks-requires
 undo-blocks-requires c κs =
@@ -34,7 +34,7 @@ unfolding callNumber steps back
 returns-2 c =
     let z : c .before .before .before .rate-number .result ≡ 0 = omega arith in
     let a = c .before .before .before .before .before .args in
-    before-taken (a .mode) (a .phase) (absorbsMore (now (a .bin)) (a .rate)) (a .st) _ _ (sym (c .before .before .before .rate-number .ensures) ∙ z)
+    before-taken (a .rule) (a .mode) (a .phase) (absorbsMore (now (a .bin)) (a .rate)) (a .st) _ _ (sym (c .before .before .before .rate-number .ensures) ∙ z)
     (c .before .undo-blocks .ensures)
     (c .accepted .ensures)
 

@@ -1,8 +1,7 @@
--- Refused in Hash; otherwise the blocks of the plaintext are undone.
+-- Refused in Hash; otherwise the blocks of the message are undone, as the rule gives them.
 use mathlib.Core.Path.{_≡_, sym, _∙_}
 use native.Mathlib.Omega.{arith}
 use denote.Ref.{now}
-use Rattle.xoodyak.specs.Cyclist.{messageBlocks}
 use Rattle.walkback.specs.Walk.{encrypts, callNumber, steps, back}
 use Rattle.walkback.proofs.Settling.{before-taken, before-refused}
 use borrow.Author.Needs.{needs}
@@ -19,21 +18,21 @@ returns : tie.Need-returns
 unfolding callNumber
 returns c =
     let a = c .before .before .before .before .args in
-    before-refused (a .mode) (a .phase) (encrypts (now (a .plaintext))) (a .st) _ _ (c .before .before .mode-number .ensures) (omega arith) (c .refused .ensures)
+    before-refused (a .rule) (a .mode) (a .phase) (encrypts (now (a .plaintext))) (a .st) _ _ (c .before .before .mode-number .ensures) (omega arith) (c .refused .ensures)
 
-undo-blocks-requires : tie.Need-undo-blocks-requires
-undo-blocks-requires c κs = search needs
+undo-message-requires : tie.Need-undo-message-requires
+undo-message-requires c κs = search needs
 
 accepted-requires : tie.Need-accepted-requires
 accepted-requires c κs = search needs
 
 returns-2 : tie.Need-returns-2
-unfolding callNumber steps back messageBlocks
+unfolding callNumber steps back
 returns-2 c =
     let z : c .before .before .before .mode-number .result ≡ 0 = omega arith in
     let a = c .before .before .before .before .before .args in
-    before-taken (a .mode) (a .phase) (encrypts (now (a .plaintext))) (a .st) _ _ (sym (c .before .before .before .mode-number .ensures) ∙ z)
-    (c .before .undo-blocks .ensures)
+    before-taken (a .rule) (a .mode) (a .phase) (encrypts (now (a .plaintext))) (a .st) _ _ (sym (c .before .before .before .mode-number .ensures) ∙ z)
+    (c .before .undo-message .ensures)
     (c .accepted .ensures)
 
 pub encrypt-spec : {M : Type 1} → statement M
@@ -43,6 +42,6 @@ encrypt-spec =
     mode-number-requires
     refused-requires
     returns
-    undo-blocks-requires
+    undo-message-requires
     accepted-requires
     returns-2)

@@ -40,7 +40,7 @@ number c =
 returns : tie.Need-returns
 returns c =
     let a = c .before .before .before .before .before .before .before .before .before .before .before .args in
-    before-refused (a .mode) (a .phase) (keys (now (a .key)) (a .has-id) (now (a .id)) (a .has-nonce) (now (a .nonce)) (a .has-counter) (now (a .counter))) (a .st) _ _ (number (c .before .before)) (omega arith) (c .refused .ensures)
+    before-refused (a .rule) (a .mode) (a .phase) (keys (now (a .key)) (a .has-id) (now (a .id)) (a .has-nonce) (now (a .nonce)) (a .has-counter) (now (a .counter))) (a .st) _ _ (number (c .before .before)) (omega arith) (c .refused .ensures)
 
 undo-key-requires : tie.Need-undo-key-requires
 undo-key-requires c κs =
@@ -57,7 +57,7 @@ unfolding steps back
 returns-2 c =
     let z : c .before .before .before .first .result ≡ 0 = omega arith in
     let a = c .before .before .before .before .before .before .before .before .before .before .before .before .args in
-    before-taken (a .mode) (a .phase) (keys (now (a .key)) (a .has-id) (now (a .id)) (a .has-nonce) (now (a .nonce)) (a .has-counter) (now (a .counter))) (a .st) _ _
+    before-taken (a .rule) (a .mode) (a .phase) (keys (now (a .key)) (a .has-id) (now (a .id)) (a .has-nonce) (now (a .nonce)) (a .has-counter) (now (a .counter))) (a .st) _ _
     (sym (number (c .before .before .before)) ∙ z)
     (rw (← c .before .before .before .before .before .before .before .or-empty .ensures, ← c .before .before .before .before .before .before .or-empty2 .ensures) (c .before .undo-key .ensures))
     (c .accepted .ensures)

@@ -1,4 +1,4 @@
--- Each kind has its own answer; three of them leave the phase where nothing was given.
+-- Each kind has its own answer; two of them leave the phase where nothing was given, and a message goes by the rule.
 use borrow.Author.Needs.{needs}
 use Rattle.walkback.proofs.phase_after.Statement.{statement}
 use Rattle.walkback.proofs.phase_after.Tie as tie
@@ -30,8 +30,8 @@ enum-told-6 c = search needs
 enum-told-7 : tie.Need-enum-told-7
 enum-told-7 c = search needs
 
-unless-empty-requires-3 : tie.Need-unless-empty-requires-3
-unless-empty-requires-3 c κs = search needs
+message-phase-requires : tie.Need-message-phase-requires
+message-phase-requires c κs = search needs
 
 enum-told-8 : tie.Need-enum-told-8
 enum-told-8 c = search needs
@@ -55,7 +55,7 @@ returns-6 : tie.Need-returns-6
 returns-6 c = search needs
 
 returns-7 : tie.Need-returns-7
-returns-7 c = rw (c .unless-empty3 .ensures, c .before .enum-told7 .given .1)
+returns-7 c = rw (c .message-phase .ensures, c .before .enum-told7 .given .1)
 
 returns-8 : tie.Need-returns-8
 returns-8 c = search needs
@@ -73,7 +73,7 @@ phase-after-spec =
     unless-empty-requires-2
     enum-told-6
     enum-told-7
-    unless-empty-requires-3
+    message-phase-requires
     enum-told-8
     returns
     returns-2

@@ -2,7 +2,6 @@
 use mathlib.Core.Path.{_≡_, sym, _∙_}
 use native.Mathlib.Omega.{arith}
 use denote.Ref.{now}
-use Rattle.xoodyak.specs.Cyclist.{messageBlocks}
 use Rattle.walkback.specs.Walk.{seals, callNumber, steps, back}
 use Rattle.walkback.proofs.Undoing.{append-undone}
 use Rattle.walkback.proofs.Settling.{before-taken, before-refused}
@@ -20,24 +19,24 @@ returns : tie.Need-returns
 unfolding callNumber
 returns c =
     let a = c .before .before .before .before .args in
-    before-refused (a .mode) (a .phase) (seals (now (a .plaintext))) (a .st) _ _ (c .before .before .mode-number .ensures) (omega arith) (c .refused .ensures)
+    before-refused (a .rule) (a .mode) (a .phase) (seals (now (a .plaintext))) (a .st) _ _ (c .before .before .mode-number .ensures) (omega arith) (c .refused .ensures)
 
 undo-squeeze-requires : tie.Need-undo-squeeze-requires
 undo-squeeze-requires c κs = search needs
 
-undo-blocks-requires : tie.Need-undo-blocks-requires
-undo-blocks-requires c κs = search needs
+undo-message-requires : tie.Need-undo-message-requires
+undo-message-requires c κs = search needs
 
 accepted-requires : tie.Need-accepted-requires
 accepted-requires c κs = search needs
 
 returns-2 : tie.Need-returns-2
-unfolding callNumber steps back messageBlocks
+unfolding callNumber steps back
 returns-2 c =
     let z : c .before .before .before .before .mode-number .result ≡ 0 = omega arith in
     let a = c .before .before .before .before .before .before .args in
-    before-taken (a .mode) (a .phase) (seals (now (a .plaintext))) (a .st) _ _ (sym (c .before .before .before .before .mode-number .ensures) ∙ z)
-    (append-undone (a .mode) _ _ (a .st) _ _ (c .before .before .undo-squeeze .ensures) (c .before .undo-blocks .ensures))
+    before-taken (a .rule) (a .mode) (a .phase) (seals (now (a .plaintext))) (a .st) _ _ (sym (c .before .before .before .before .mode-number .ensures) ∙ z)
+    (append-undone (a .mode) _ _ (a .st) _ _ (c .before .before .undo-squeeze .ensures) (c .before .undo-message .ensures))
     (c .accepted .ensures)
 
 pub seal-spec : {M : Type 1} → statement M
@@ -48,6 +47,6 @@ seal-spec =
     refused-requires
     returns
     undo-squeeze-requires
-    undo-blocks-requires
+    undo-message-requires
     accepted-requires
     returns-2)

@@ -20,6 +20,9 @@ returns c = let d = c .before .before in
     let a = d .before .before .args in
     call-refused _ _ (d .mode-number .ensures) _ (a .self) (now (a .in-out)) _ answerOf _ (c .before .if1 .taken) (c .answer .ensures)
 
+slice-aggregate-same-bytes-2 : tie.Need-slice-aggregate-same-bytes-2
+slice-aggregate-same-bytes-2 c = sym (tag-size (c .before .before .before .before .before .before .before .before .before .before .before .before .before))
+
 same-bytes-requires : tie.Need-same-bytes-requires
 same-bytes-requires c κs = c .before .before .before .before .squeeze-tag .kept .1 .0 ∙ sym (tag-size (c .before .before .before .before .before .before .before .before .before .before .before .before .before))
 
@@ -60,7 +63,7 @@ aead-decrypt-in-place-detached-spec =
     (λ c. search needs)
     (λ c κs. search needs)
     (λ c. search needs)
-    (λ c. search needs)
+    slice-aggregate-same-bytes-2
     same-bytes-requires
     (λ c κs. search needs)
     (λ c. search needs)

@@ -25,7 +25,7 @@ returns-2 : tie.Need-returns-2
 unfolding newOf
 returns-2 c =
     answer-taken _ _ (number (c .before .before .before .before .before .before)) _ _ _ _ answerOf _ (c .before .before .before .before .if1 .left)
-    (rw (c .answer2 .ensures, c .before .onward .ensures, c .before .before .key-call .ensures, c .before .before .before .fresh .ensures, c .before .before .before .before .before .before .before .before .or-empty .ensures, c .before .before .before .before .before .before .before .or-empty2 .ensures))
+    (rw (c .answer2 .ensures, c .before .onward .ensures, c .before .before .key-call .ensures, c .before .before .before .fresh .ensures, c .before .before .before .before .before .hash .ensures, c .before .before .before .before .before .before .before .before .or-empty .ensures, c .before .before .before .before .before .before .before .or-empty2 .ensures))
 
 pub new-spec : {M : Type 1} → statement M
 new-spec = tie.close (tie.spec (λ c κs. search needs) (λ c κs. search needs) (λ c κs. search needs) (λ c κs. search needs) (λ c κs. search needs) returns (λ c κs. search needs) key-call-requires (λ c κs. search needs) (λ c κs. search needs) returns-2)
