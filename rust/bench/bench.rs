@@ -43,6 +43,8 @@ fn main() {
     assert_eq!(zeros, crate_native::permuted_zeros(), "the native build permutes otherwise");
     #[cfg(port)]
     assert_eq!(zeros, port::permuted_zeros(), "the port permutes otherwise");
+    #[cfg(port)]
+    assert_eq!(crate_sse::results(), port::results(), "the port's digests, ciphertexts or tags differ");
 
     #[allow(unused_mut)]
     let mut forms: Vec<(&'static str, Vec<Thing>)> = vec![

@@ -16,6 +16,28 @@ pub fn permuted_zeros() -> [u8; 48] {
     out
 }
 
+// A digest, and for each length what the calls in place, by copy and back give.
+pub fn results() -> Vec<Vec<u8>> {
+    let (mut session, mut digest) = (XoodyakHash::new(), vec![0; 32]);
+    session.absorb(&[7; 4080]);
+    session.squeeze(&mut digest);
+    let mut all = vec![digest];
+    let start = XoodyakKeyed::new(&[1; 16], Some(&[2; 16]), None, None).unwrap();
+    for length in [16, 64, 1024, 4080] {
+        let (mut encrypted, mut in_place, mut copied) = (vec![7; length], vec![7; length], vec![0; length]);
+        start.clone().encrypt_in_place(&mut encrypted);
+        let tag = start.clone().aead_encrypt_in_place_detached(&mut in_place);
+        let copied_tag = start.clone().aead_encrypt_detached(&mut copied, Some(&vec![7; length])).unwrap();
+        let (mut decrypted, mut opened, mut opened_copy) = (encrypted.clone(), in_place.clone(), vec![0; length]);
+        start.clone().decrypt_in_place(&mut decrypted);
+        start.clone().aead_decrypt_in_place_detached(&mut opened, &tag).unwrap();
+        start.clone().aead_decrypt_detached(&mut opened_copy, &copied_tag, Some(&copied)).unwrap();
+        let (tag, copied_tag) = (tag.as_ref().to_vec(), copied_tag.as_ref().to_vec());
+        all.extend([encrypted, in_place, tag, copied, copied_tag, decrypted, opened, opened_copy]);
+    }
+    all
+}
+
 pub fn things() -> Vec<Thing> {
     let mut xoodoo = Xoodoo::default();
     let mut all = vec![thing("permutation".into(), move || black_box(&mut xoodoo).permute())];

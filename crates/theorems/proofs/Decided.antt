@@ -1,6 +1,6 @@
 -- Two results that a promise allows are equal, for each public call.
 use mathlib.Core.Path.{_≡_}
-use Rattle.theorems.proofs.Decides.{Decides, once, twice}
+use Rattle.theorems.proofs.Decides.{Decides, once, twice, thrice, fourfold, fivefold}
 use Rattle.xoodoo.proofs.Xoodoo.default.Reads as xoodoo-default
 use Rattle.xoodoo.proofs.Xoodoo.default.Kinds as xoodoo-default-k
 use Rattle.xoodoo.proofs.Xoodoo.from_bytes.Reads as xoodoo-from-bytes
@@ -91,6 +91,26 @@ use Rattle.walkback.proofs.seal.Reads as back-seal
 use Rattle.walkback.proofs.seal.Kinds as back-seal-k
 use Rattle.walkback.proofs.phase_after.Reads as back-phase-after
 use Rattle.walkback.proofs.phase_after.Kinds as back-phase-after-k
+use Rattle.capi.proofs.lafomeihu_xoodoo_permute.Reads as c-xoodoo-permute
+use Rattle.capi.proofs.lafomeihu_xoodoo_permute.Kinds as c-xoodoo-permute-k
+use Rattle.capi.proofs.lafomeihu_xoodoo_inverse.Reads as c-xoodoo-inverse
+use Rattle.capi.proofs.lafomeihu_xoodoo_inverse.Kinds as c-xoodoo-inverse-k
+use Rattle.capi.proofs.session.lafomeihu_absorb.Reads as c-absorb
+use Rattle.capi.proofs.session.lafomeihu_absorb.Kinds as c-absorb-k
+use Rattle.capi.proofs.session.lafomeihu_squeeze.Reads as c-squeeze
+use Rattle.capi.proofs.session.lafomeihu_squeeze.Kinds as c-squeeze-k
+use Rattle.capi.proofs.session.lafomeihu_encrypt_in_place.Reads as c-encrypt-in-place
+use Rattle.capi.proofs.session.lafomeihu_encrypt_in_place.Kinds as c-encrypt-in-place-k
+use Rattle.capi.proofs.session.lafomeihu_decrypt_in_place.Reads as c-decrypt-in-place
+use Rattle.capi.proofs.session.lafomeihu_decrypt_in_place.Kinds as c-decrypt-in-place-k
+use Rattle.capi.proofs.session.lafomeihu_open_in_place_detached.Reads as c-open-in-place-detached
+use Rattle.capi.proofs.session.lafomeihu_open_in_place_detached.Kinds as c-open-in-place-detached-k
+use Rattle.capi.proofs.session.lafomeihu_open_detached.Reads as c-open-detached
+use Rattle.capi.proofs.session.lafomeihu_open_detached.Kinds as c-open-detached-k
+use Rattle.capi.proofs.session.lafomeihu_seal_in_place_detached.Reads as c-seal-in-place-detached
+use Rattle.capi.proofs.session.lafomeihu_seal_in_place_detached.Kinds as c-seal-in-place-detached-k
+use Rattle.capi.proofs.session.lafomeihu_seal_detached.Reads as c-seal-detached
+use Rattle.capi.proofs.session.lafomeihu_seal_detached.Kinds as c-seal-detached-k
 
 -- ---- the permutation
 pub xoodoo-default-decided : Decides 0 xoodoo-default-k.ps xoodoo-default-k.r xoodoo-default.Post (λ κs x x′ e e′. x ≡ x′)
@@ -230,3 +250,34 @@ back-seal-decided κs a x x′ e e′ = once
 
 pub back-phase-after-decided : Decides 0 back-phase-after-k.ps back-phase-after-k.r back-phase-after.Post (λ κs x x′ e e′. x ≡ x′)
 back-phase-after-decided κs a x x′ e e′ = once
+
+-- ---- exported functions
+pub c-xoodoo-permute-decided : Decides 1 c-xoodoo-permute-k.ps c-xoodoo-permute-k.r c-xoodoo-permute.Post (λ κs x x′ e e′. e .0 .now ≡ e′ .0 .now)
+c-xoodoo-permute-decided κs a x x′ e e′ = once
+
+pub c-xoodoo-inverse-decided : Decides 1 c-xoodoo-inverse-k.ps c-xoodoo-inverse-k.r c-xoodoo-inverse.Post (λ κs x x′ e e′. e .0 .now ≡ e′ .0 .now)
+c-xoodoo-inverse-decided κs a x x′ e e′ = once
+
+pub c-absorb-decided : Decides 3 c-absorb-k.ps c-absorb-k.r c-absorb.Post (λ κs x x′ e e′. (x ≡ x′) × ((e .0 .now ≡ e′ .0 .now) × (e .1 .0 .now ≡ e′ .1 .0 .now)))
+c-absorb-decided κs a x x′ e e′ = thrice
+
+pub c-squeeze-decided : Decides 3 c-squeeze-k.ps c-squeeze-k.r c-squeeze.Post (λ κs x x′ e e′. (x ≡ x′) × ((e .0 .now ≡ e′ .0 .now) × ((e .1 .0 .now ≡ e′ .1 .0 .now) × (e .1 .1 .0 .now ≡ e′ .1 .1 .0 .now))))
+c-squeeze-decided κs a x x′ e e′ = fourfold
+
+pub c-encrypt-in-place-decided : Decides 3 c-encrypt-in-place-k.ps c-encrypt-in-place-k.r c-encrypt-in-place.Post (λ κs x x′ e e′. (x ≡ x′) × ((e .0 .now ≡ e′ .0 .now) × ((e .1 .0 .now ≡ e′ .1 .0 .now) × (e .1 .1 .0 .now ≡ e′ .1 .1 .0 .now))))
+c-encrypt-in-place-decided κs a x x′ e e′ = fourfold
+
+pub c-decrypt-in-place-decided : Decides 3 c-decrypt-in-place-k.ps c-decrypt-in-place-k.r c-decrypt-in-place.Post (λ κs x x′ e e′. (x ≡ x′) × ((e .0 .now ≡ e′ .0 .now) × ((e .1 .0 .now ≡ e′ .1 .0 .now) × (e .1 .1 .0 .now ≡ e′ .1 .1 .0 .now))))
+c-decrypt-in-place-decided κs a x x′ e e′ = fourfold
+
+pub c-open-in-place-detached-decided : Decides 4 c-open-in-place-detached-k.ps c-open-in-place-detached-k.r c-open-in-place-detached.Post (λ κs x x′ e e′. (x ≡ x′) × ((e .0 .now ≡ e′ .0 .now) × ((e .1 .0 .now ≡ e′ .1 .0 .now) × (e .1 .1 .0 .now ≡ e′ .1 .1 .0 .now))))
+c-open-in-place-detached-decided κs a x x′ e e′ = fourfold
+
+pub c-open-detached-decided : Decides 5 c-open-detached-k.ps c-open-detached-k.r c-open-detached.Post (λ κs x x′ e e′. (x ≡ x′) × ((e .0 .now ≡ e′ .0 .now) × ((e .1 .0 .now ≡ e′ .1 .0 .now) × (e .1 .1 .0 .now ≡ e′ .1 .1 .0 .now))))
+c-open-detached-decided κs a x x′ e e′ = fourfold
+
+pub c-seal-in-place-detached-decided : Decides 4 c-seal-in-place-detached-k.ps c-seal-in-place-detached-k.r c-seal-in-place-detached.Post (λ κs x x′ e e′. (x ≡ x′) × ((e .0 .now ≡ e′ .0 .now) × ((e .1 .0 .now ≡ e′ .1 .0 .now) × ((e .1 .1 .0 .now ≡ e′ .1 .1 .0 .now) × (e .1 .1 .1 .0 .now ≡ e′ .1 .1 .1 .0 .now)))))
+c-seal-in-place-detached-decided κs a x x′ e e′ = fivefold
+
+pub c-seal-detached-decided : Decides 5 c-seal-detached-k.ps c-seal-detached-k.r c-seal-detached.Post (λ κs x x′ e e′. (x ≡ x′) × ((e .0 .now ≡ e′ .0 .now) × ((e .1 .0 .now ≡ e′ .1 .0 .now) × ((e .1 .1 .0 .now ≡ e′ .1 .1 .0 .now) × (e .1 .1 .1 .1 .0 .now ≡ e′ .1 .1 .1 .1 .0 .now)))))
+c-seal-detached-decided κs a x x′ e e′ = fivefold

@@ -1,0 +1,2 @@
+-- The walk that the exported functions' proofs cite.
+pub mod Walk

@@ -1,0 +1,70 @@
+-- A session as the caller holds it, 48 bytes and a head of three numbers, and the outcome of an exported call on it.
+use mathlib.Core.Bool.{Bool, true, false}
+use mathlib.Core.List.{List, [], _∷_}
+use Prim.Native.Nat.{ℕ, zero, suc}
+use lib.Dec.{ltb}
+use lib.ListN.{getD}
+use Rattle.xoodyak.specs.declared.cyclist.Mode.{Mode}
+use Rattle.xoodyak.specs.declared.cyclist.Mode.the-variants.{Hash, Keyed}
+use Rattle.xoodyak.specs.declared.cyclist.Phase.{Phase}
+use Rattle.xoodyak.specs.declared.cyclist.Phase.the-variants.{Up, Down}
+use Rattle.xoodyak.specs.declared.Rule.{Rule}
+use Rattle.xoodyak.specs.declared.Rule.the-variants.{Crate, Specification}
+use Rattle.xoodyak.specs.declared.Session.{Session}
+use Rattle.xoodyak.specs.Calls.{Outcome, both}
+
+-- ---- the three numbers: mode, phase, rule
+abbrev pub modeOf : ℕ → Mode
+modeOf zero = Hash
+modeOf (suc _) = Keyed
+
+abbrev pub phaseOf : ℕ → Phase
+phaseOf zero = Up
+phaseOf (suc _) = Down
+
+abbrev pub ruleOf : ℕ → Rule
+ruleOf zero = Crate
+ruleOf (suc _) = Specification
+
+abbrev pub modeNo : Mode → ℕ
+modeNo Hash = 0
+modeNo Keyed = 1
+
+abbrev pub phaseNo : Phase → ℕ
+phaseNo Up = 0
+phaseNo Down = 1
+
+abbrev pub ruleNo : Rule → ℕ
+ruleNo Crate = 0
+ruleNo Specification = 1
+
+-- each number is 0 or 1
+unfoldable pub sound : List ℕ → Bool
+sound head = both (ltb (getD head 0 0) 2) (both (ltb (getD head 1 0) 2) (ltb (getD head 2 0) 2))
+
+abbrev pub sessionOf : List ℕ → List ℕ → Session
+sessionOf st head = record {
+  duplex = record { st = st; mode = modeOf (getD head 0 0); phase = phaseOf (getD head 1 0) };
+  rule = ruleOf (getD head 2 0);
+}
+
+abbrev pub headOf : Session → List ℕ
+headOf s = modeNo (s .duplex .mode) ∷ phaseNo (s .duplex .phase) ∷ ruleNo (s .rule) ∷ []
+
+-- ---- what an exported call answers and leaves in the caller's memory
+pub record Exported : Type 0 where
+  pub number : ℕ
+  pub st : List ℕ
+  pub head : List ℕ
+  pub bytes : List ℕ
+  pub tag : List ℕ
+
+-- from soundness and the call's own outcome: 40, with nothing changed, where the head is not sound
+abbrev pub answered : Bool → List ℕ → List ℕ → List ℕ → List ℕ → Outcome → Exported
+answered true st head bytes tag x =
+    record { number = x .number; st = x .session .duplex .st; head = headOf (x .session); bytes = x .bytes; tag = x .tag }
+answered false st head bytes tag x = record { number = 40; st = st; head = head; bytes = bytes; tag = tag }
+
+-- a call on the caller's session, with the lent buffer and the tag as they are at entry; empty where a call has none
+unfoldable pub exported : List ℕ → List ℕ → List ℕ → List ℕ → (Session → Outcome) → Exported
+exported st head bytes tag call = answered (sound head) st head bytes tag (call (sessionOf st head))

@@ -1,0 +1,26 @@
+// The port for C and Rust: exported functions over the caller's memory.
+pub mod session;
+
+ghost use mathlib.Core.Path.{_≡_};
+ghost use Rattle.xoodoo.specs.Xoodoo as x;
+use xoodoo::Xoodoo;
+
+#[no_mangle]
+pub extern "C" fn lafomeihu_xoodoo_permute(st: &mut [u8; 48])
+    ensures { λ _. ⌜ now (st .exit) ≡ x.xoodoo (now (st .entry)) ⌝ }
+{
+    let b = *st;
+    let after = Xoodoo::from_bytes(b).permute();
+    let out = after.st;
+    *st = out;
+}
+
+#[no_mangle]
+pub extern "C" fn lafomeihu_xoodoo_inverse(st: &mut [u8; 48])
+    ensures { λ _. ⌜ now (st .exit) ≡ x.inverse (now (st .entry)) ⌝ }
+{
+    let b = *st;
+    let before = Xoodoo::from_bytes(b).inverse();
+    let out = before.st;
+    *st = out;
+}

@@ -1,0 +1,319 @@
+// Exported calls on a session that is the caller's: its 48 bytes, and a head of three numbers for mode, phase and rule.
+ghost use mathlib.Core.Path.{_≡_};
+ghost use mathlib.Core.List.{[]};
+ghost use Rattle.xoodyak.specs.Calls.{absorbOf, squeezeOf, encryptInPlaceOf, decryptInPlaceOf, sealInPlaceDetachedOf, openInPlaceDetachedOf, sealDetachedOf, openDetachedOf};
+ghost use Rattle.capi.specs.Capi.{modeOf, phaseOf, ruleOf, modeNo, phaseNo, ruleNo, sound, sessionOf, headOf, exported};
+use xoodyak::Rule;
+use xoodyak::Session;
+use xoodyak::cyclist::Duplex;
+use xoodyak::cyclist::Mode;
+use xoodyak::cyclist::Phase;
+use xoodyak::tag::Tag;
+
+fn mode_of(n: u8) -> Mode
+    ensures { λ r. ⌜ r ≡ modeOf n ⌝ }
+{
+    match n {
+        0 => Mode::Hash,
+        _ => Mode::Keyed,
+    }
+}
+
+fn phase_of(n: u8) -> Phase
+    ensures { λ r. ⌜ r ≡ phaseOf n ⌝ }
+{
+    match n {
+        0 => Phase::Up,
+        _ => Phase::Down,
+    }
+}
+
+fn rule_of(n: u8) -> Rule
+    ensures { λ r. ⌜ r ≡ ruleOf n ⌝ }
+{
+    match n {
+        0 => Rule::Crate,
+        _ => Rule::Specification,
+    }
+}
+
+fn mode_no(mode: Mode) -> u8
+    ensures { λ r. ⌜ r ≡ modeNo mode ⌝ }
+{
+    match mode {
+        Mode::Hash => 0,
+        Mode::Keyed => 1,
+    }
+}
+
+fn phase_no(phase: Phase) -> u8
+    ensures { λ r. ⌜ r ≡ phaseNo phase ⌝ }
+{
+    match phase {
+        Phase::Up => 0,
+        Phase::Down => 1,
+    }
+}
+
+fn rule_no(rule: Rule) -> u8
+    ensures { λ r. ⌜ r ≡ ruleNo rule ⌝ }
+{
+    match rule {
+        Rule::Crate => 0,
+        Rule::Specification => 1,
+    }
+}
+
+fn sound(head: [u8; 3]) -> bool
+    ensures { λ r. ⌜ r ≡ sound head ⌝ }
+{
+    if head[0] < 2 {
+        if head[1] < 2 { head[2] < 2 } else { false }
+    } else {
+        false
+    }
+}
+
+fn session_of(st: [u8; 48], head: [u8; 3]) -> Session
+    ensures { λ r. ⌜ r ≡ sessionOf st head ⌝ }
+{
+    let mode = mode_of(head[0]);
+    let phase = phase_of(head[1]);
+    let rule = rule_of(head[2]);
+    Session {
+        duplex: Duplex {
+            st: st,
+            mode: mode,
+            phase: phase,
+        },
+        rule: rule,
+    }
+}
+
+fn head_of(s: Session) -> [u8; 3]
+    ensures { λ r. ⌜ r ≡ headOf s ⌝ }
+{
+    let d = s.duplex;
+    let mode = d.mode;
+    let phase = d.phase;
+    let rule = s.rule;
+    let m = mode_no(mode);
+    let p = phase_no(phase);
+    let r = rule_no(rule);
+    [m, p, r]
+}
+
+#[no_mangle]
+pub extern "C" fn lafomeihu_absorb(st: &mut [u8; 48], head: &mut [u8; 3], bin: &[u8]) -> u8
+    ensures { λ r. ⌜ r ≡ exported (now (st .entry)) (now (head .entry)) [] [] (λ s. absorbOf s (now (bin .entry))) .number ⌝ }
+    ensures { λ _. ⌜ now (st .exit) ≡ exported (now (st .entry)) (now (head .entry)) [] [] (λ s. absorbOf s (now (bin .entry))) .st ⌝ }
+    ensures { λ _. ⌜ now (head .exit) ≡ exported (now (st .entry)) (now (head .entry)) [] [] (λ s. absorbOf s (now (bin .entry))) .head ⌝ }
+{
+    let b = *st;
+    let h = *head;
+    if sound(h) {
+        let a = session_of(b, h).absorb(bin);
+        let s = a.session;
+        let d = s.duplex;
+        let after = d.st;
+        let g = head_of(s);
+        *st = after;
+        *head = g;
+        return a.number;
+    }
+    40
+}
+
+#[no_mangle]
+pub extern "C" fn lafomeihu_squeeze(st: &mut [u8; 48], head: &mut [u8; 3], out: &mut [u8]) -> u8
+    ensures { λ r. ⌜ r ≡ exported (now (st .entry)) (now (head .entry)) (now (out .entry)) [] (λ s. squeezeOf 0x40 s (now (out .entry))) .number ⌝ }
+    ensures { λ _. ⌜ now (st .exit) ≡ exported (now (st .entry)) (now (head .entry)) (now (out .entry)) [] (λ s. squeezeOf 0x40 s (now (out .entry))) .st ⌝ }
+    ensures { λ _. ⌜ now (head .exit) ≡ exported (now (st .entry)) (now (head .entry)) (now (out .entry)) [] (λ s. squeezeOf 0x40 s (now (out .entry))) .head ⌝ }
+    ensures { λ _. ⌜ now (out .exit) ≡ exported (now (st .entry)) (now (head .entry)) (now (out .entry)) [] (λ s. squeezeOf 0x40 s (now (out .entry))) .bytes ⌝ }
+{
+    let b = *st;
+    let h = *head;
+    if sound(h) {
+        let a = session_of(b, h).squeeze(out);
+        let s = a.session;
+        let d = s.duplex;
+        let after = d.st;
+        let g = head_of(s);
+        *st = after;
+        *head = g;
+        return a.number;
+    }
+    40
+}
+
+#[no_mangle]
+pub extern "C" fn lafomeihu_encrypt_in_place(
+    st: &mut [u8; 48],
+    head: &mut [u8; 3],
+    in_out: &mut [u8],
+) -> u8
+    ensures { λ r. ⌜ r ≡ exported (now (st .entry)) (now (head .entry)) (now («in_out» .entry)) [] (λ s. encryptInPlaceOf s (now («in_out» .entry))) .number ⌝ }
+    ensures { λ _. ⌜ now (st .exit) ≡ exported (now (st .entry)) (now (head .entry)) (now («in_out» .entry)) [] (λ s. encryptInPlaceOf s (now («in_out» .entry))) .st ⌝ }
+    ensures { λ _. ⌜ now (head .exit) ≡ exported (now (st .entry)) (now (head .entry)) (now («in_out» .entry)) [] (λ s. encryptInPlaceOf s (now («in_out» .entry))) .head ⌝ }
+    ensures { λ _. ⌜ now («in_out» .exit) ≡ exported (now (st .entry)) (now (head .entry)) (now («in_out» .entry)) [] (λ s. encryptInPlaceOf s (now («in_out» .entry))) .bytes ⌝ }
+{
+    let b = *st;
+    let h = *head;
+    if sound(h) {
+        let a = session_of(b, h).encrypt_in_place(in_out);
+        let s = a.session;
+        let d = s.duplex;
+        let after = d.st;
+        let g = head_of(s);
+        *st = after;
+        *head = g;
+        return a.number;
+    }
+    40
+}
+
+#[no_mangle]
+pub extern "C" fn lafomeihu_decrypt_in_place(
+    st: &mut [u8; 48],
+    head: &mut [u8; 3],
+    in_out: &mut [u8],
+) -> u8
+    ensures { λ r. ⌜ r ≡ exported (now (st .entry)) (now (head .entry)) (now («in_out» .entry)) [] (λ s. decryptInPlaceOf s (now («in_out» .entry))) .number ⌝ }
+    ensures { λ _. ⌜ now (st .exit) ≡ exported (now (st .entry)) (now (head .entry)) (now («in_out» .entry)) [] (λ s. decryptInPlaceOf s (now («in_out» .entry))) .st ⌝ }
+    ensures { λ _. ⌜ now (head .exit) ≡ exported (now (st .entry)) (now (head .entry)) (now («in_out» .entry)) [] (λ s. decryptInPlaceOf s (now («in_out» .entry))) .head ⌝ }
+    ensures { λ _. ⌜ now («in_out» .exit) ≡ exported (now (st .entry)) (now (head .entry)) (now («in_out» .entry)) [] (λ s. decryptInPlaceOf s (now («in_out» .entry))) .bytes ⌝ }
+{
+    let b = *st;
+    let h = *head;
+    if sound(h) {
+        let a = session_of(b, h).decrypt_in_place(in_out);
+        let s = a.session;
+        let d = s.duplex;
+        let after = d.st;
+        let g = head_of(s);
+        *st = after;
+        *head = g;
+        return a.number;
+    }
+    40
+}
+
+#[no_mangle]
+pub extern "C" fn lafomeihu_seal_in_place_detached(
+    st: &mut [u8; 48],
+    head: &mut [u8; 3],
+    in_out: &mut [u8],
+    tag: &mut [u8; 16],
+) -> u8
+    ensures { λ r. ⌜ r ≡ exported (now (st .entry)) (now (head .entry)) (now («in_out» .entry)) (now (tag .entry)) (λ s. sealInPlaceDetachedOf s (now («in_out» .entry))) .number ⌝ }
+    ensures { λ _. ⌜ now (st .exit) ≡ exported (now (st .entry)) (now (head .entry)) (now («in_out» .entry)) (now (tag .entry)) (λ s. sealInPlaceDetachedOf s (now («in_out» .entry))) .st ⌝ }
+    ensures { λ _. ⌜ now (head .exit) ≡ exported (now (st .entry)) (now (head .entry)) (now («in_out» .entry)) (now (tag .entry)) (λ s. sealInPlaceDetachedOf s (now («in_out» .entry))) .head ⌝ }
+    ensures { λ _. ⌜ now («in_out» .exit) ≡ exported (now (st .entry)) (now (head .entry)) (now («in_out» .entry)) (now (tag .entry)) (λ s. sealInPlaceDetachedOf s (now («in_out» .entry))) .bytes ⌝ }
+    ensures { λ _. ⌜ now (tag .exit) ≡ exported (now (st .entry)) (now (head .entry)) (now («in_out» .entry)) (now (tag .entry)) (λ s. sealInPlaceDetachedOf s (now («in_out» .entry))) .tag ⌝ }
+{
+    let b = *st;
+    let h = *head;
+    if sound(h) {
+        let a = session_of(b, h).aead_encrypt_in_place_detached(in_out);
+        let t = a.tag;
+        let got = t.bytes;
+        *tag = got;
+        let s = a.session;
+        let d = s.duplex;
+        let after = d.st;
+        let g = head_of(s);
+        *st = after;
+        *head = g;
+        return a.number;
+    }
+    40
+}
+
+#[no_mangle]
+pub extern "C" fn lafomeihu_open_in_place_detached(
+    st: &mut [u8; 48],
+    head: &mut [u8; 3],
+    in_out: &mut [u8],
+    tag: &[u8; 16],
+) -> u8
+    ensures { λ r. ⌜ r ≡ exported (now (st .entry)) (now (head .entry)) (now («in_out» .entry)) [] (λ s. openInPlaceDetachedOf s (now («in_out» .entry)) (record { bytes = now (tag .entry) })) .number ⌝ }
+    ensures { λ _. ⌜ now (st .exit) ≡ exported (now (st .entry)) (now (head .entry)) (now («in_out» .entry)) [] (λ s. openInPlaceDetachedOf s (now («in_out» .entry)) (record { bytes = now (tag .entry) })) .st ⌝ }
+    ensures { λ _. ⌜ now (head .exit) ≡ exported (now (st .entry)) (now (head .entry)) (now («in_out» .entry)) [] (λ s. openInPlaceDetachedOf s (now («in_out» .entry)) (record { bytes = now (tag .entry) })) .head ⌝ }
+    ensures { λ _. ⌜ now («in_out» .exit) ≡ exported (now (st .entry)) (now (head .entry)) (now («in_out» .entry)) [] (λ s. openInPlaceDetachedOf s (now («in_out» .entry)) (record { bytes = now (tag .entry) })) .bytes ⌝ }
+{
+    let b = *st;
+    let h = *head;
+    if sound(h) {
+        let received = Tag::from_bytes(*tag);
+        let a = session_of(b, h).aead_decrypt_in_place_detached(in_out, received);
+        let s = a.session;
+        let d = s.duplex;
+        let after = d.st;
+        let g = head_of(s);
+        *st = after;
+        *head = g;
+        return a.number;
+    }
+    40
+}
+
+#[no_mangle]
+pub extern "C" fn lafomeihu_seal_detached(
+    st: &mut [u8; 48],
+    head: &mut [u8; 3],
+    out: &mut [u8],
+    bin: &[u8],
+    tag: &mut [u8; 16],
+) -> u8
+    ensures { λ r. ⌜ r ≡ exported (now (st .entry)) (now (head .entry)) (now (out .entry)) (now (tag .entry)) (λ s. sealDetachedOf s (now (out .entry)) (now (bin .entry))) .number ⌝ }
+    ensures { λ _. ⌜ now (st .exit) ≡ exported (now (st .entry)) (now (head .entry)) (now (out .entry)) (now (tag .entry)) (λ s. sealDetachedOf s (now (out .entry)) (now (bin .entry))) .st ⌝ }
+    ensures { λ _. ⌜ now (head .exit) ≡ exported (now (st .entry)) (now (head .entry)) (now (out .entry)) (now (tag .entry)) (λ s. sealDetachedOf s (now (out .entry)) (now (bin .entry))) .head ⌝ }
+    ensures { λ _. ⌜ now (out .exit) ≡ exported (now (st .entry)) (now (head .entry)) (now (out .entry)) (now (tag .entry)) (λ s. sealDetachedOf s (now (out .entry)) (now (bin .entry))) .bytes ⌝ }
+    ensures { λ _. ⌜ now (tag .exit) ≡ exported (now (st .entry)) (now (head .entry)) (now (out .entry)) (now (tag .entry)) (λ s. sealDetachedOf s (now (out .entry)) (now (bin .entry))) .tag ⌝ }
+{
+    let b = *st;
+    let h = *head;
+    if sound(h) {
+        let a = session_of(b, h).aead_encrypt_detached(out, true, bin);
+        let t = a.tag;
+        let got = t.bytes;
+        *tag = got;
+        let s = a.session;
+        let d = s.duplex;
+        let after = d.st;
+        let g = head_of(s);
+        *st = after;
+        *head = g;
+        return a.number;
+    }
+    40
+}
+
+#[no_mangle]
+pub extern "C" fn lafomeihu_open_detached(
+    st: &mut [u8; 48],
+    head: &mut [u8; 3],
+    out: &mut [u8],
+    tag: &[u8; 16],
+    bin: &[u8],
+) -> u8
+    ensures { λ r. ⌜ r ≡ exported (now (st .entry)) (now (head .entry)) (now (out .entry)) [] (λ s. openDetachedOf s (now (out .entry)) (record { bytes = now (tag .entry) }) (now (bin .entry))) .number ⌝ }
+    ensures { λ _. ⌜ now (st .exit) ≡ exported (now (st .entry)) (now (head .entry)) (now (out .entry)) [] (λ s. openDetachedOf s (now (out .entry)) (record { bytes = now (tag .entry) }) (now (bin .entry))) .st ⌝ }
+    ensures { λ _. ⌜ now (head .exit) ≡ exported (now (st .entry)) (now (head .entry)) (now (out .entry)) [] (λ s. openDetachedOf s (now (out .entry)) (record { bytes = now (tag .entry) }) (now (bin .entry))) .head ⌝ }
+    ensures { λ _. ⌜ now (out .exit) ≡ exported (now (st .entry)) (now (head .entry)) (now (out .entry)) [] (λ s. openDetachedOf s (now (out .entry)) (record { bytes = now (tag .entry) }) (now (bin .entry))) .bytes ⌝ }
+{
+    let b = *st;
+    let h = *head;
+    if sound(h) {
+        let received = Tag::from_bytes(*tag);
+        let a = session_of(b, h).aead_decrypt_detached(out, received, true, bin);
+        let s = a.session;
+        let d = s.duplex;
+        let after = d.st;
+        let g = head_of(s);
+        *st = after;
+        *head = g;
+        return a.number;
+    }
+    40
+}
