@@ -8,13 +8,14 @@ help:
 	@echo 'make test    the gate: layout, promises, imports; then everything proved from nothing, every must-fail edit, every program'
 	@echo 'make oracle  compare the proved program with the original Rust crate on random transcripts (SEEDS, LINES)'
 	@echo 'make stored  make the stored transcript and its answers anew'
-	@echo 'make bench   time the library beside the original Rust crate'
+	@echo 'make bench   time the library beside the original Rust crate, as a table'
 	@echo 'make lib     the archive for C and Rust: target/staticlib/libcapi.a'
 	@echo 'make rust    nothing to do yet: the drop-in crate and the C test are not there'
 
 demo:
-	@rt check demo > target-demo.log 2>&1 || { cat target-demo.log; exit 1; }
-	@rm -f target-demo.log
+	@mkdir -p target
+	@echo 'proving what the demonstration needs: some minutes the first time'
+	@rt check demo > target/demo.log 2>&1 || { cat target/demo.log; exit 1; }
 	@target/bin/demo
 
 checks:
