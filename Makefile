@@ -32,6 +32,7 @@ test: checks
 oracle:
 	rust/oracle/build.sh
 	rt check replay
+	LINES=25000 KINDS=x tools/oracle.sh target/bin/replay $(SEEDS)
 	LINES=$(LINES) KINDS=all tools/oracle.sh target/bin/replay $(SEEDS)
 
 stored:
@@ -43,7 +44,9 @@ lib:
 
 bench: lib
 	rust/bench/build.sh
+	rt check replay
 	target/bench/bench
+	python3 tools/walkback_times.py target/bin/replay
 
 rust:
 	@echo 'nothing to do yet: the drop-in crate and the C test are not there'
