@@ -15,8 +15,6 @@ KEYED, HASH = "set keyed down " + STATE, "set hash down " + STATE
 
 # What, the call, the same refused, the step back, the same refused; each a first line and a line that is repeated.
 CALLS = [
-    ("absorb 4080, keyed", (KEYED, "absorb " + DATA), (KEYED, "absorb_more " + DATA + " 0"),
-     (KEYED, "back down absorb " + DATA), (KEYED, "back down absorb_more " + DATA + " 0")),
     ("encrypt in place 4080", (KEYED, "encrypt_in_place " + DATA), (HASH, "encrypt_in_place " + DATA),
      (KEYED, "back down encrypt " + DATA), (HASH, "back down encrypt " + DATA)),
     ("seal in place 4080", (KEYED, "aead_encrypt_in_place_detached " + DATA), (HASH, "aead_encrypt_in_place_detached " + DATA),
