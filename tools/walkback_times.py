@@ -29,7 +29,7 @@ def least(program, first, line):
         start = time.perf_counter()
         done = subprocess.run([program], input=text, stdout=subprocess.PIPE, check=True)
         took = time.perf_counter() - start
-        if done.stdout.count(b"\n") != LINES + 1 or b"bad" in done.stdout:
+        if done.stdout.count(b"\n") != LINES + 1 or b"\nbad\n" in done.stdout:
             sys.exit("walkback_times.py: the program did not answer every line")
         best = took if best is None else min(best, took)
     return best
