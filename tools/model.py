@@ -10,7 +10,7 @@ import sys
 
 LONGEST_LINE = 40000
 LONGEST_BYTES = 16384
-KEY_REQUIRED, KEY_TOO_LONG, SHORT_OUTPUT, TAG_MISMATCH, BAD_RATE, BAD_RUN = 1, 2, 3, 4, 5, 6
+KEY_REQUIRED, KEY_TOO_LONG, SHORT_OUTPUT, TAG_MISMATCH, BAD_RATE, BAD_RUN, UNFINISHED = 1, 2, 3, 4, 5, 6, 7
 ID_TOO_LONG, NONCE_TOO_LONG, SHORT_INPUT, BAD_COUNT = 8, 9, 10, 11
 
 # ---- Xoodoo: a plane is a number of 128 bits, column x at bits 32x to 32x+31 ----
@@ -111,12 +111,23 @@ def first_of(*numbers):
     return next((number for number in numbers if number), 0)
 
 
+class Message:
+    """An unfinished message: seal or open, and the number of bytes in its block begun last, None before the first."""
+
+    def __init__(self, kind):
+        self.kind, self.place = kind, None
+
+
 class Session:
+    """`message` is None where none is begun; `ups` counts the permutations."""
+
     def __init__(self, rule, mode="hash", phase="up", state=0):
         self.rule, self.mode, self.phase, self.state = rule, mode, phase, state
+        self.message, self.ups = None, 0
 
     def up(self, n, cu):
         self.phase = "up"
+        self.ups += 1
         if self.mode == "keyed":
             self.state ^= cu << 8 * 47
         self.state = permute(self.state)
@@ -162,8 +173,17 @@ class Session:
 
     # What a call refuses, before anything changes.
 
-    def key_required(self):
+    def unfinished(self):
+        return UNFINISHED if self.message else 0
+
+    def not_this(self, kind):
+        return 0 if self.message and self.message.kind == kind else UNFINISHED
+
+    def hash_refused(self):
         return KEY_REQUIRED if self.mode == "hash" else 0
+
+    def key_required(self):
+        return first_of(self.unfinished(), self.hash_refused())
 
     def rate_refused(self, rate):
         return BAD_RATE if rate == 0 or rate > ABSORB_RATE[self.mode] else 0
@@ -171,10 +191,13 @@ class Session:
     # The calls.
 
     def absorb(self, data):
-        self.absorb_any(data, ABSORB_RATE[self.mode], 0x03)
+        number = self.unfinished()
+        if not number:
+            self.absorb_any(data, ABSORB_RATE[self.mode], 0x03)
+        return number
 
     def absorb_more(self, data, rate):
-        number = self.rate_refused(rate)
+        number = first_of(self.unfinished(), self.rate_refused(rate))
         if not number:
             for block in blocks(data, rate):
                 self.up(0, 0x00)
@@ -207,6 +230,52 @@ class Session:
             self.absorb_any(self.squeeze_any(RATCHET_RATE, 0x10), RATCHET_RATE, 0x00)
         return number
 
+    # A message bit by bit: what Down adds of a block is added byte by byte as the bytes come, and the padding, with phase
+    # Down, where the next block or the end shows that the block is over.
+
+    def begin(self, kind):
+        number = self.key_required()
+        if not number:
+            self.message = Message(kind)
+        return number
+
+    def close_block(self):
+        self.phase = "down"
+        self.state ^= at_byte(self.message.place, b"\x01")
+
+    def open_block(self):
+        if self.message.place is None:
+            self.up(0, 0x80)
+        else:
+            self.close_block()
+            self.up(0, 0x00)
+        self.message.place = 0
+
+    def feed(self, piece, allowance):
+        """The output for the bytes taken: it stops where a permutation is needed that the allowance does not have."""
+        out, left = b"", allowance
+        for byte in piece:
+            if self.message.place in (None, SQUEEZE_RATE["keyed"]):
+                if left == 0:
+                    break
+                left -= 1
+                self.open_block()
+            answer = byte ^ self.state >> 8 * self.message.place & 0xff
+            plain = byte if self.message.kind == "seal" else answer
+            self.state ^= at_byte(self.message.place, bytes([plain]))
+            self.message.place += 1
+            out += bytes([answer])
+        return out
+
+    def finish(self):
+        """The tag."""
+        if self.message.place is None:
+            self.crypt(b"", False)
+        else:
+            self.close_block()
+        self.message = None
+        return self.squeeze(TAG)
+
     # Walking back: the last step of the call first.
 
     def back_up(self, cu):
@@ -238,10 +307,10 @@ class Session:
             self.back_up(0x80 if i == 0 else 0x00)
 
     def back(self, before, kind, *data):
-        """One call undone: from the bytes after it to the bytes before it, whose phase was `before`."""
+        """One call undone: from the bytes after it to the bytes before it, whose phase was `before`. A message begun stays so."""
         number = 0
         if kind in ("key", "encrypt", "seal"):
-            number = self.key_required()
+            number = self.hash_refused()
         if kind == "absorb_more":
             number = self.rate_refused(data[1])
         if kind == "key":
@@ -348,7 +417,9 @@ def read_one_of(*words):
 
 read_tag, read_state, read_byte = read_exactly(TAG), read_exactly(48), read_exactly(1)
 read_mode, read_phase, read_rule = read_one_of("hash", "keyed"), read_one_of("up", "down"), read_one_of("crate", "spec")
+read_kind = read_one_of("seal", "open")
 KEY_WORDS = [read_bytes, read_optional, read_optional, read_optional]
+FINISH_FORMS = {"seal": [], "open": [read_tag]}
 BACK_FORMS = {
     "absorb": [read_bytes], "absorb_more": [read_bytes, read_number],
     "squeeze": [read_length], "squeeze_key": [read_length], "squeeze_more": [read_length],
@@ -375,6 +446,11 @@ def unwritten(n):
     return b"\xa5" * n
 
 
+def short_output(result, n):
+    """3 tells how many bytes are missing."""
+    return "%d:%d" % (SHORT_OUTPUT, result - n) if n < result else 0
+
+
 class Runner:
     """Holds a session, the rule of those to be made, and a Xoodoo state; `answer` takes a line's bytes and gives its answer, None for none."""
 
@@ -387,11 +463,11 @@ class Runner:
             "hash": ([], self.hash),
             "new": (KEY_WORDS, self.new),
             "key": (KEY_WORDS, lambda *arguments: self.session.key(*arguments)),
-            "absorb": ([read_bytes], self.absorb),
+            "absorb": ([read_bytes], lambda data: self.session.absorb(data)),
             "absorb_more": ([read_bytes, read_number], lambda data, rate: self.session.absorb_more(data, rate)),
-            "squeeze": ([read_length], lambda n: (0, self.session.squeeze(n))),
-            "squeeze_key": ([read_length], lambda n: (0, self.session.squeeze_key(n))),
-            "squeeze_more": ([read_length], lambda n: (0, self.session.squeeze_more(n))),
+            "squeeze": ([read_length], lambda n: self.squeeze(n, self.session.squeeze)),
+            "squeeze_key": ([read_length], lambda n: self.squeeze(n, self.session.squeeze_key)),
+            "squeeze_more": ([read_length], lambda n: self.squeeze(n, self.session.squeeze_more)),
             "ratchet": ([], lambda: self.session.ratchet()),
             "encrypt": ([read_length, read_bytes], lambda n, data: self.crypt(n, data, False)),
             "decrypt": ([read_length, read_bytes], lambda n, data: self.crypt(n, data, True)),
@@ -405,6 +481,9 @@ class Runner:
             "aead_encrypt_in_place": ([read_bytes], self.aead_encrypt_in_place),
             "aead_decrypt_in_place_detached": ([read_bytes, read_tag], self.aead_decrypt_in_place_detached),
             "aead_decrypt_in_place": ([read_bytes], self.aead_decrypt_in_place),
+            "begin": ([read_kind], lambda kind: self.session.begin(kind)),
+            "feed": ([read_kind, read_length, read_bytes, read_number], self.feed),
+            "finish": (None, self.finish),
             "verify": ([read_tag, read_tag], lambda one, other: 0 if one == other else TAG_MISMATCH),
             "state": ([], lambda: (self.session.mode, self.session.phase, first_bytes(self.session.state, 48))),
             "set": ([read_mode, read_phase, read_state], self.set),
@@ -432,6 +511,10 @@ class Runner:
             readers, call = self.forms[name]
             if name == "rule":
                 readers = [read_rule] if words else []
+            if name == "finish":
+                if not words or words[0] not in FINISH_FORMS:
+                    raise ValueError
+                readers = [str] + FINISH_FORMS[words[0]]
             if name == "back":
                 if len(words) < 2 or words[1] not in BACK_FORMS:
                     raise ValueError
@@ -459,22 +542,22 @@ class Runner:
             self.session = Session(self.rule)
         return number
 
-    def absorb(self, data):
-        self.session.absorb(data)
-        return 0
-
     def set(self, mode, phase, state):
         self.session = Session(self.session.rule, mode, phase, at_byte(0, state))
         return 0
 
+    def squeeze(self, n, call):
+        number = self.session.unfinished()
+        return (number, unwritten(n)) if number else (0, call(n))
+
     # Encryption and sealing. A refused call answers its buffer as it was; bytes past the result stay.
 
     def refusal(self, result, n, too_short_an_input=False):
-        """1 before 10 for the input before 3 for the output, which tells how many bytes are missing."""
+        """7 before 1 before 10 for the input before 3 for the output."""
         return first_of(
             self.session.key_required(),
             SHORT_INPUT if too_short_an_input else 0,
-            "%d:%d" % (SHORT_OUTPUT, result - n) if n < result else 0,
+            short_output(result, n),
         )
 
     def crypt(self, n, data, decrypting):
@@ -548,6 +631,28 @@ class Runner:
             return number, data, b""
         number, front = self.aead_decrypt_in_place_detached(data[:-TAG], data[-TAG:])
         return number, front + data[-TAG:], b"" if number else front
+
+    # A message bit by bit. What a feed does not take leaves the output as it was.
+
+    def feed(self, kind, n, piece, allowance):
+        session = self.session
+        number = first_of(session.not_this(kind), session.hash_refused(), short_output(len(piece), n))
+        if number:
+            return number, unwritten(n), 0, 0
+        before = session.ups
+        out = session.feed(piece, allowance)
+        return 0, out + unwritten(n - len(out)), len(out), session.ups - before
+
+    def finish(self, kind, received=None):
+        session = self.session
+        number, tag, before = first_of(session.not_this(kind), session.hash_refused()), bytes(TAG), session.ups
+        if not number:
+            tag = session.finish()
+        if kind == "seal":
+            return number, tag, session.ups - before
+        if not number and tag != received:
+            number = TAG_MISMATCH
+        return number, session.ups - before
 
     # Xoodoo's own calls.
 

@@ -95,6 +95,21 @@ class Script:
     def data(self, length):
         return word(self.bytes(length))
 
+    def hand_over(self, kind, text, plan, tag=None, more=0):
+        """A message begun, fed by the plan and finished, from the session as it stands; outputs have `more` bytes past the piece.
+        Gives the output, sealing's tag or opening's number, and the permutations of the feeds and of the finish."""
+        self.expect("0", "begin", kind)
+        out, spent = b"", 0
+        for offered, allowance in plan:
+            piece = text[len(out):len(out) + offered]
+            _, written, taken, ups = self.ask("feed", kind, len(piece) + more, word(piece), allowance).split(" ")
+            out += unword(written)[:int(taken)]
+            spent += int(ups)
+        if len(out) != len(text):
+            stop("line %d: %d bytes of %d are taken" % (len(self.lines), len(out), len(text)))
+        *_, ended, ups = self.ask(*finish_line(kind, tag)).split(" ")
+        return out, unword(ended) if kind == "seal" else ended, spent, int(ups)
+
     def write(self, transcript, answers, last_line_feed=True):
         with open(transcript, "wb") as out:
             out.write(b"\n".join(self.lines) + (b"\n" if last_line_feed else b""))
@@ -153,6 +168,32 @@ def mismatch_answer(form, length, tag):
 
 
 FORMS = ["detached", "combined", "detached_in_place", "in_place"]
+
+
+# ---- A message handed over bit by bit. A plan is a list of feeds, each with the bytes offered and the allowance ----
+
+MOST = 2**64 - 1
+
+
+def finish_line(kind, tag):
+    return ("finish", kind) if kind == "seal" else ("finish", kind, word(tag))
+
+
+def steps(n, allowance):
+    """The whole rest offered each time, as often as it takes."""
+    return [(n, allowance)] * -(-n // (24 * allowance))
+
+
+def one_by_one(n):
+    """With no allowance, and again with one where a block begins."""
+    return [(1, allowance) for i in range(n) for allowance in ([0, 1] if i % 24 == 0 else [0])]
+
+
+def plans(n):
+    """Step by step, cut in two about the ends of blocks, and with no allowance at the start, inside a block and at its end."""
+    yield from [steps(n, 1), steps(n, 2)]
+    yield from [[(cut, 2), (n, 3)] for cut in [0, 1, 23, 24, 25, 48]]
+    yield [(n, 0), (5, 1), (n, 0), (n, 0), (3, 1), (n, 0), (n, MOST)]
 
 
 # ---- Random transcripts ----
@@ -322,6 +363,45 @@ class RandomScript(Script):
         self.again()
         self.call(*open_line(opening, ciphertext, tag))
 
+    def feed_line(self):
+        """A feed or a finish of either kind, whatever is begun."""
+        pick, length = self.random, self.length()
+        kind = pick.choice(["seal", "open"])
+        if pick.random() < 0.1:
+            self.ask(*finish_line(kind, self.bytes(16)))
+        else:
+            room = pick.choice([length, length, length, length + pick.randrange(30), pick.randrange(length + 1)])
+            self.ask("feed", kind, room, self.data(length), pick.choice([0, 1, 2, 3, MOST]))
+
+    def unfinished(self):
+        """A message begun, then lines of every kind; the session is not made again after these."""
+        self.ask("begin", self.random.choice(["seal", "open"]))
+        for _ in range(self.random.randrange(8)):
+            self.random.choice([self.feed_line, self.feed_line, self.feed_line, self.session_line, self.aead_line])()
+
+    def hand_over_and_open(self):
+        """Sealed bit by bit and by one call, and opened bit by bit, with a wrong tag and with the right one: all end alike."""
+        pick, length = self.random, self.length()
+        message, form = self.bytes(length), pick.choice(FORMS)
+
+        def over(kind, text, tag=None):
+            lengths, allowances = [0, 1, 5, 23, 24, 25, length, pick.randrange(length + 1)], [0, 0, 1, 1, 2, MOST]
+            feeds = [(pick.choice(lengths), pick.choice(allowances)) for _ in range(pick.randrange(5))]
+            rest = pick.choice([steps(length, pick.choice([1, 2, 9])), [(length, MOST)]])
+            out, ended, *_ = self.hand_over(kind, text, feeds + rest, tag, more=pick.choice([0, 0, 7]))
+            return out, ended
+
+        ciphertext, tag = over("seal", message)
+        end = self.ask("state")
+        self.again()
+        if (sealed_of(self.ask(*seal_line(form, message))), self.ask("state")) != ((ciphertext, tag), end):
+            stop("line %d: one call seals otherwise" % len(self.lines))
+        for number, given in [("4", flipped(tag, pick.randrange(128))), ("0", tag)]:
+            self.again()
+            if (over("open", ciphertext, given), self.ask("state")) != ((message, number), end):
+                stop("line %d: what was sealed is opened otherwise" % len(self.lines))
+        self.history.append(open_line(form, ciphertext, tag))
+
     def episode(self):
         self.start()
         for _ in range(self.random.randrange(1, 9)):
@@ -330,12 +410,18 @@ class RandomScript(Script):
                 self.aead_line()
             elif self.kinds == "all" and dice < 0.30 and self.mode == "keyed":
                 self.seal_and_open()
+            elif self.kinds == "all" and dice < 0.33 and self.mode == "keyed":
+                self.hand_over_and_open()
+            elif self.kinds == "all" and dice < 0.36:
+                self.feed_line()
             elif dice > 0.97:
                 self.ask(bad_line(self))
             elif dice > 0.96:
                 self.ask(self.random.choice([b"", b"#", b"# a note", b"#state"]))
             else:
                 self.session_line()
+        if self.kinds == "all" and self.random.random() < 0.3:
+            self.unfinished()
         self.ask("state")
 
     def make(self, lines):
@@ -1147,6 +1233,164 @@ class StoredScript(Script):
         self.expect("3:16 .", "aead_encrypt", 0, "-")
         self.ask("state")
 
+    # A message handed over bit by bit.
+
+    def handed_over(self, rule):
+        """Messages handed over in every way, each beside its one-call form; all end in one session."""
+        start = ("new", self.data(16), self.data(16), "-", "-")
+        for length in [0, 1, 23, 24, 25, 48, 49] if rule == "crate" else [0, 49]:
+            message = self.bytes(length)
+            self.note("%d bytes, sealed and opened by one call and bit by bit" % length)
+            self.ask(*start)
+            ciphertext, tag = sealed_of(self.ask(*seal_line("detached", message)))
+            end = self.ask("state")
+            ups = (-(-length // 24), 2 if rule == "spec" and length == 0 else 1)
+            ways = list(plans(length)) if length == 49 else [[(length, MOST)]] if length else [[], [(0, 0), (0, 1)]]
+            if length == 25 and rule == "crate":
+                ways.append(one_by_one(length))
+            for kind, text, out, ended in [("seal", message, ciphertext, tag), ("open", ciphertext, message, "0")]:
+                if kind == "open":
+                    self.ask(*start)
+                    self.expect("0 " + word(message), *open_line("detached", ciphertext, tag))
+                    self.expect(end, "state")
+                for plan in ways:
+                    self.ask(*start)
+                    if self.hand_over(kind, text, plan, tag) != (out, ended, *ups):
+                        stop("line %d: %d bytes handed over otherwise" % (len(self.lines), length))
+                    self.expect(end, "state")
+            self.ask(*start)
+            wrong = flipped(tag, self.random.randrange(128))
+            if self.hand_over("open", ciphertext, steps(length, 1), wrong, more=2) != (message, "4", *ups):
+                stop("line %d: a wrong tag of %d bytes" % (len(self.lines), length))
+            self.expect(end, "state")
+
+    def on_unfinished(self):
+        """Every call that an unfinished message refuses, some of them wrong in other ways too, with what follows the 7."""
+        data, tag = self.data(25), self.data(16)
+        no_tag = " " + "00" * 16
+        for kind in ["seal", "open"]:
+            yield "", ("begin", kind)
+        for words in [("00", "-", "-", "-"), (self.data(44), "-", "-", "-")]:
+            yield "", ("key", *words)
+        for words in [("absorb", data), ("absorb_more", data, 16), ("absorb_more", ".", 0), ("ratchet",)]:
+            yield "", words
+        for name in ["squeeze", "squeeze_key", "squeeze_more"]:
+            yield " a5a5", (name, 2)
+        for name in ["encrypt", "decrypt"]:
+            yield " " + "a5" * 25, (name, 25, data)
+            yield " a5", (name, 1, data)
+            yield " " + data, (name + "_in_place", data)
+        yield " " + "a5" * 26 + no_tag, ("aead_encrypt_detached", 26, data)
+        yield " ." + no_tag, ("aead_encrypt_detached", 0, "-")
+        yield " " + "a5" * 41, ("aead_encrypt", 41, data)
+        yield " " + "a5" * 25, ("aead_decrypt_detached", 25, tag, data)
+        yield " " + "a5" * 9, ("aead_decrypt", 9, data)
+        yield " a5", ("aead_decrypt", 1, "00")
+        yield " " + data + no_tag, ("aead_encrypt_in_place_detached", data)
+        yield " " + data, ("aead_encrypt_in_place", data)
+        yield " " + data, ("aead_decrypt_in_place_detached", data, tag)
+        yield " " + data + " .", ("aead_decrypt_in_place", data)
+        yield " 00 .", ("aead_decrypt_in_place", "00")
+
+    def refused_by_message(self, rule):
+        tag, no_tag = self.bytes(16), "00" * 16
+        self.note("a feed or finish with none begun: 7, before 1 and 3; begin in Hash: 1")
+        for mode in ["hash", "keyed"]:
+            self.begin(mode)
+            before = self.ask("state")
+            for kind in ["seal", "open"]:
+                if mode == "hash":
+                    self.expect("1", "begin", kind)
+                self.expect("7 a5 0 0", "feed", kind, 1, "00", 1)
+                self.expect("7 . 0 0", "feed", kind, 0, "00", 0)
+            self.expect("7 %s 0" % no_tag, "finish", "seal")
+            self.expect("7 0", "finish", "open", word(tag))
+            self.expect(before, "state")
+        for kind, other, fed in [("seal", "open", 0), ("open", "seal", 29)]:
+            self.note("every other call on a message begun to %s, after %d bytes" % (kind, fed))
+            self.begin("keyed")
+            self.ask("absorb", "00")
+            self.expect("0", "begin", kind)
+            self.ask("feed", kind, fed, self.data(fed), 2)
+            before = self.ask("state")
+            for more, words in list(self.on_unfinished()):
+                self.expect("7" + more, *words)
+            self.expect("7 a5a5 0 0", "feed", other, 2, "0000", 2)
+            self.expect("7 . 0 0", "feed", other, 0, "00", 0)
+            self.expect("7 %s 0" % no_tag if other == "seal" else "7 0", *finish_line(other, tag))
+            self.expect(before, "state")
+            self.note("an output shorter than its piece: 3, whatever the allowance")
+            for length, room in [(1, 0), (25, 24), (25, 0)]:
+                for allowance in [0, MOST]:
+                    short = "3:%d %s 0 0" % (length - room, "a5" * room or ".")
+                    self.expect(short, "feed", kind, room, self.data(length), allowance)
+            self.expect(before, "state")
+            self.note("lines that show, compare and set the rule to come go on, and so does the message")
+            self.expect(rule, "rule")
+            self.expect("0", "rule", "crate")
+            self.expect(rule, "rule")
+            self.expect("0", "rule", rule)
+            self.expect("0", "verify", word(tag), word(tag))
+            self.expect(before, "state")
+            self.ask("feed", kind, 30, self.data(25), 1)
+            self.ask("state")
+            self.ask(*finish_line(kind, tag))
+            self.expect("7 . 0 0", "feed", kind, 0, ".", 1)
+            self.ask("squeeze", 3)
+
+    def replaced(self):
+        self.note("hash, new, a refused new and set replace a session with its message")
+        for number, words in [(0, ("hash",)), (0, ("new", self.data(16), "-", "-", "-")), (2, ("new", self.data(44), "-", "-", "-")),
+                              (0, ("set", "keyed", "up", self.data(48)))]:
+            self.begin("keyed")
+            self.expect("0", "begin", "seal")
+            self.ask("feed", "seal", 3, self.data(3), 1)
+            self.expect(number, *words)
+            self.expect("7 a5 0 0", "feed", "seal", 1, "00", 1)
+            self.expect("0", "absorb", "00")
+            self.ask("state")
+        self.note("a step back changes the bytes and the phase, and leaves the message")
+        self.begin("keyed")
+        self.expect("0", "begin", "open")
+        self.ask("feed", "open", 5, self.data(5), 1)
+        self.expect("5", "back", "down", "absorb_more", ".", 0)
+        self.expect("0", "back", "down", "squeeze", 3)
+        self.ask("state")
+        self.expect("7", "absorb", "00")
+        self.ask("feed", "open", 30, self.data(30), 1)
+        self.ask("finish", "open", word(bytes(16)))
+        self.ask("state")
+
+    def feeding(self):
+        after, self.random = self.random, random.Random("feeding")  # apart, so that the lines after these stay as they were
+        for rule in ["crate", "spec"]:
+            self.note("a message handed over bit by bit, rule " + rule)
+            self.expect("0", "rule", rule)
+            self.handed_over(rule)
+            self.refused_by_message(rule)
+        self.expect("0", "rule", "crate")
+        self.replaced()
+        self.note("one session that seals bit by bit and by one call, from both phases; a long message")
+        self.begin("keyed")
+        for length, prepare in [(30, ("squeeze", 3)), (24, ("absorb", "00")), (4080, ("ratchet",))]:
+            self.ask(*prepare)
+            message = self.bytes(length)
+            self.hand_over("seal", message, steps(length, 100), more=1)
+            self.ask(*seal_line("combined", message[:40]))
+            self.ask("state")
+        self.note("lines about a message that fit no form")
+        tag = self.data(16)
+        for line in ["begin", "begin ", "begin seal ", "begin Seal", "begin seal open", "begin close", "Begin seal", "begins seal",
+                     "feed", "feed seal", "feed seal 1", "feed seal 1 00", "feed 1 00 1", "feed close 1 00 1", "feed seal 1 00 1 1",
+                     "feed seal 1 00 -1", "feed seal 1 00 18446744073709551616", "feed seal 1 00 .", "feed seal 1 - 1",
+                     "feed seal 1 0 1", "feed seal 16385 00 1", "feed seal . 00 1", "feed seal 1 00 1 ", "finish", "finish ",
+                     "finish seal ", "finish seal " + tag, "finish open", "finish open " + tag[2:], "finish open %s00" % tag,
+                     "finish open - ", "finish close", "finish open %s 0" % tag]:
+            self.expect("bad", line.encode())
+        self.ask("state")
+        self.begin("hash")
+        self.random = after
+
     def differences(self, layer):
         """Every listed difference, shown by a line that the original, asked all the same, answers otherwise."""
         self.note("where the original differs: Xoodoo")
@@ -1212,6 +1456,7 @@ class StoredScript(Script):
             self.ask("rule", "crate")
             self.begin("hash")
             self.lengths_refused()
+            self.feeding()
         shown = self.differences(layer)
         self.note("the last line has no line feed")
         self.ask("x_state")

@@ -26,12 +26,12 @@ extern "C" {
 #[derive(Clone)]
 struct Session {
     st: [u8; 48],
-    head: [u8; 3],
+    head: [u8; 6],
 }
 
 impl Session {
     fn hash() -> Session {
-        Session { st: [0; 48], head: [0, 0, 0] }
+        Session { st: [0; 48], head: [0; 6] }
     }
 
     // The session that the original makes of the key 01.. and the nonce 02.., of 16 bytes each: one block in Down.
@@ -40,7 +40,7 @@ impl Session {
         st[..16].fill(1);
         st[16..32].fill(2);
         (st[32], st[33], st[47]) = (16, 1, 2);
-        Session { st, head: [1, 1, 0] }
+        Session { st, head: [1, 1, 0, 0, 0, 0] }
     }
 
     fn parts(&mut self) -> (*mut u8, *mut u8) {

@@ -3,7 +3,8 @@
 // Lines that the original has no call for, or where the port differs from it on purpose, are answered `unsupported`
 // and change nothing. With `--outside` the latter are put to the original all the same, to show what it does
 // (`panic` where it panics). The original has the crate rule only: the lines of a session that was made under the
-// specification's rule are `unsupported` as well.
+// specification's rule are `unsupported` as well. It has no message handed over bit by bit either: its one-call forms
+// answer for all the bytes so far.
 use std::io::{self, BufRead, Write};
 use std::panic::{catch_unwind, AssertUnwindSafe};
 use xoodyak::{Xoodoo, XoodyakAny, XoodyakCommon, XoodyakError, XoodyakHash, XoodyakKeyed, XoodyakTag};
@@ -11,6 +12,8 @@ use xoodyak::{Xoodoo, XoodyakAny, XoodyakCommon, XoodyakError, XoodyakHash, Xood
 const LONGEST_LINE: usize = 40_000;
 const LONGEST_BYTES: usize = 16_384;
 const UNSUPPORTED: &str = "unsupported";
+// The lines about a session that do not answer 7 because a message is unfinished.
+const ON_UNFINISHED: [&str; 7] = ["hash", "new", "set", "state", "back", "feed", "finish"];
 
 // Words of a line. `None` means that the word does not fit its form.
 
@@ -62,6 +65,10 @@ fn mode(word: &str) -> Option<()> {
 
 fn phase(word: &str) -> Option<()> {
     matches!(word, "up" | "down").then_some(())
+}
+
+fn opening(word: &str) -> Option<bool> {
+    matches!(word, "seal" | "open").then_some(word == "open")
 }
 
 // Words of an answer.
@@ -121,9 +128,18 @@ fn unwritten(length: usize) -> Vec<u8> {
     vec![0xa5; length]
 }
 
+// A message handed over bit by bit, and its bytes so far.
+#[derive(Clone)]
+struct Message {
+    opening: bool,
+    taken: Vec<u8>,
+}
+
 #[derive(Clone)]
 struct Runner {
+    // On an unfinished message the session from before it.
     session: XoodyakAny,
+    message: Option<Message>,
     xoodoo: Xoodoo,
     outside: bool,
     // Whether sessions are made under the specification's rule, and whether the present one was.
@@ -144,14 +160,64 @@ impl Runner {
         matches!(self.session, XoodyakAny::Keyed(_)) && out > result && message % 24 != 0 && !self.outside
     }
 
+    // The session after the unfinished message's bytes so far, were these all, and the output for them.
+    fn so_far(&self) -> (XoodyakAny, Vec<u8>) {
+        let mut session = self.session.clone();
+        let mut text = Vec::new();
+        if let Some(message) = &self.message {
+            text = message.taken.clone();
+            let done = if message.opening { session.decrypt_in_place(&mut text) } else { session.encrypt_in_place(&mut text) };
+            done.expect("a message is begun in a keyed session only");
+        }
+        (session, text)
+    }
+
+    fn is_begun(&self, opening: bool) -> bool {
+        self.message.as_ref().map_or(false, |message| message.opening == opening)
+    }
+
+    // Takes what the open block has room for and 24 bytes for each permutation allowed.
+    fn feed(&mut self, opening: bool, mut out: Vec<u8>, piece: &[u8], allowance: u64) -> String {
+        if !self.is_begun(opening) {
+            return format!("7 {} 0 0", hex(&out));
+        }
+        if out.len() < piece.len() {
+            return format!("3:{} {} 0 0", piece.len() - out.len(), hex(&out));
+        }
+        let begun = &mut self.message.as_mut().unwrap().taken;
+        let before = begun.len();
+        let room = before.next_multiple_of(24) - before;
+        let taken = piece.len().min(room.saturating_add(24usize.saturating_mul(allowance as usize)));
+        begun.extend(&piece[..taken]);
+        out[..taken].copy_from_slice(&self.so_far().1[before..]);
+        format!("0 {} {} {}", hex(&out), taken, taken.saturating_sub(room).div_ceil(24))
+    }
+
+    // What a session call answers on an unfinished message: 7 where a Hash session refuses with 1, and where a Hash session
+    // takes the call, 7 with the buffer as it was.
+    fn unfinished(&self, line: &str) -> Option<String> {
+        let answer = Runner { session: fresh_hash(), ..self.clone() }.answer(line)?;
+        Some(match answer.split_once(' ') {
+            None => "7".to_string(),
+            Some(("0", squeezed)) => format!("7 {}", hex(&unwritten(squeezed.len() / 2))),
+            Some((_, kept)) => format!("7 {}", kept),
+        })
+    }
+
     // The session as the original's Debug text tells it: `Hash(XoodyakHash { state: Xoodoo { st: [..] }, phase: Up })`.
+    // Inside a message the last block is not closed: its padding is taken back, and the phase is that of the block's Up.
     fn state(&self) -> String {
-        let text = format!("{:?}", self.session);
+        let (session, taken) = self.so_far();
+        let text = format!("{:?}", session);
         let mode = if text.starts_with("Hash(") { "hash" } else { "keyed" };
         let phase = if text.contains("phase: Up") { "up" } else { "down" };
         let (from, to) = (text.find('[').unwrap() + 1, text.find(']').unwrap());
-        let bytes: Vec<u8> = text[from..to].split(", ").map(|byte| byte.parse().unwrap()).collect();
-        format!("{} {} {}", mode, phase, hex(&bytes))
+        let mut bytes: Vec<u8> = text[from..to].split(", ").map(|byte| byte.parse().unwrap()).collect();
+        if taken.is_empty() {
+            return format!("{} {} {}", mode, phase, hex(&bytes));
+        }
+        bytes[(taken.len() - 1) % 24 + 1] ^= 1;
+        format!("{} up {}", mode, hex(&bytes))
     }
 
     // `None` is a line that fits no form.
@@ -284,6 +350,36 @@ impl Runner {
                 let number = code(&done, Lengths::Tagged(data.len(), data.len()));
                 format!("{} {} {}", number, hex(&data), hex(&done.unwrap_or_default()))
             }
+            ["begin", kind] => {
+                let opening = opening(kind)?;
+                if let XoodyakAny::Hash(_) = self.session {
+                    return Some("1".to_string());
+                }
+                self.message = Some(Message { opening, taken: Vec::new() });
+                "0".to_string()
+            }
+            ["feed", kind, n, piece, allowance] => {
+                let (opening, out, piece, allowance) = (opening(kind)?, unwritten(length(n)?), bytes(piece)?, number(allowance)?);
+                self.feed(opening, out, &piece, allowance)
+            }
+            // Under the crate rule a finish permutes for the tag alone.
+            ["finish", "seal"] => {
+                if !self.is_begun(false) {
+                    return Some(format!("7 {} 0", hex(&[0; 16])));
+                }
+                let mut data = self.message.take().unwrap().taken;
+                let tag = self.session.aead_encrypt_in_place_detached(&mut data).unwrap();
+                format!("0 {} 1", hex(tag.as_ref()))
+            }
+            ["finish", "open", tag] => {
+                let tag = XoodyakTag::from(array(tag)?);
+                if !self.is_begun(true) {
+                    return Some("7 0".to_string());
+                }
+                let mut data = self.message.take().unwrap().taken;
+                let done = self.session.aead_decrypt_in_place_detached(&mut data, &tag);
+                format!("{} 1", code(&done, Lengths::None))
+            }
             ["verify", one, other] => {
                 let (one, other) = (XoodyakTag::from(array(one)?), array(other)?);
                 code(&one.verify(other), Lengths::None)
@@ -362,18 +458,22 @@ impl Runner {
 
     fn answer_by_rule(&mut self, line: &str) -> Option<String> {
         let name = line.split(' ').next()?;
+        let of_session = name != "verify" && !name.starts_with("x_");
         let answer = match line {
             "rule" => "crate".to_string(),
             "rule crate" | "rule spec" => {
                 self.makes_spec = line == "rule spec";
                 return Some("0".to_string());
             }
+            _ if self.message.is_some() && of_session && !ON_UNFINISHED.contains(&name) => self.unfinished(line)?,
             _ => self.answer(line)?,
         };
         if matches!(name, "hash" | "new") {
             self.is_spec = self.makes_spec;
         }
-        let of_session = name != "verify" && !name.starts_with("x_");
+        if matches!(name, "hash" | "new" | "set") {
+            self.message = None;
+        }
         Some(if self.is_spec && of_session { UNSUPPORTED.to_string() } else { answer })
     }
 
@@ -401,7 +501,7 @@ fn main() -> io::Result<()> {
     if outside {
         std::panic::set_hook(Box::new(|_| {}));
     }
-    let mut runner = Runner { session: fresh_hash(), xoodoo: Xoodoo::default(), outside, makes_spec: false, is_spec: false };
+    let mut runner = Runner { session: fresh_hash(), message: None, xoodoo: Xoodoo::default(), outside, makes_spec: false, is_spec: false };
     let mut input = io::BufReader::with_capacity(1 << 16, io::stdin().lock());
     let mut output = io::BufWriter::with_capacity(1 << 16, io::stdout().lock());
     let mut line = Vec::new();

@@ -1,4 +1,4 @@
--- A session as the caller holds it, 48 bytes and a head of three numbers, and the outcome of an exported call on it.
+-- A session as the caller holds it, 48 bytes and a head of six numbers, and the outcome of an exported call on it.
 use mathlib.Core.Bool.{Bool, true, false}
 use mathlib.Core.List.{List, [], _∷_}
 use Prim.Native.Nat.{ℕ, zero, suc}
@@ -10,10 +10,12 @@ use Rattle.xoodyak.specs.declared.cyclist.Phase.{Phase}
 use Rattle.xoodyak.specs.declared.cyclist.Phase.the-variants.{Up, Down}
 use Rattle.xoodyak.specs.declared.Rule.{Rule}
 use Rattle.xoodyak.specs.declared.Rule.the-variants.{Crate, Specification}
+use Rattle.xoodyak.specs.declared.feed.Kind.{Kind}
+use Rattle.xoodyak.specs.declared.feed.Kind.the-variants.{Seal, Open}
 use Rattle.xoodyak.specs.declared.Session.{Session}
 use Rattle.xoodyak.specs.Calls.{Outcome, both}
 
--- ---- the three numbers: mode, phase, rule
+-- ---- the six numbers: mode, phase, rule, whether a message is begun, its kind, its place
 abbrev pub modeOf : ℕ → Mode
 modeOf zero = Hash
 modeOf (suc _) = Keyed
@@ -25,6 +27,14 @@ phaseOf (suc _) = Down
 abbrev pub ruleOf : ℕ → Rule
 ruleOf zero = Crate
 ruleOf (suc _) = Specification
+
+abbrev pub begunOf : ℕ → Bool
+begunOf zero = false
+begunOf (suc _) = true
+
+abbrev pub kindOf : ℕ → Kind
+kindOf zero = Seal
+kindOf (suc _) = Open
 
 abbrev pub modeNo : Mode → ℕ
 modeNo Hash = 0
@@ -38,18 +48,36 @@ abbrev pub ruleNo : Rule → ℕ
 ruleNo Crate = 0
 ruleNo Specification = 1
 
--- each number is 0 or 1
+abbrev pub begunNo : Bool → ℕ
+begunNo true = 1
+begunNo false = 0
+
+abbrev pub kindNo : Kind → ℕ
+kindNo Seal = 0
+kindNo Open = 1
+
+-- each number but the place is 0 or 1
 unfoldable pub sound : List ℕ → Bool
-sound head = both (ltb (getD head 0 0) 2) (both (ltb (getD head 1 0) 2) (ltb (getD head 2 0) 2))
+sound head =
+    both (ltb (getD head 0 0) 2)
+    (both (ltb (getD head 1 0) 2) (both (ltb (getD head 2 0) 2) (both (ltb (getD head 3 0) 2) (ltb (getD head 4 0) 2))))
 
 abbrev pub sessionOf : List ℕ → List ℕ → Session
 sessionOf st head = record {
   duplex = record { st = st; mode = modeOf (getD head 0 0); phase = phaseOf (getD head 1 0) };
   rule = ruleOf (getD head 2 0);
+  message = record { begun = begunOf (getD head 3 0); kind = kindOf (getD head 4 0); place = getD head 5 0 };
 }
 
 abbrev pub headOf : Session → List ℕ
-headOf s = modeNo (s .duplex .mode) ∷ phaseNo (s .duplex .phase) ∷ ruleNo (s .rule) ∷ []
+headOf s =
+    modeNo (s .duplex .mode)
+    ∷ phaseNo (s .duplex .phase)
+    ∷ ruleNo (s .rule)
+    ∷ begunNo (s .message .begun)
+    ∷ kindNo (s .message .kind)
+    ∷ s .message .place
+    ∷ []
 
 -- ---- what an exported call answers and leaves in the caller's memory
 pub record Exported : Type 0 where

@@ -1,13 +1,16 @@
-// Exported calls on a session that is the caller's: its 48 bytes, and a head of three numbers for mode, phase and rule.
+// Exported calls on a session that is the caller's: its 48 bytes, and a head of six numbers for mode, phase, rule and the
+// message that may be unfinished: whether it is begun, its kind and its place.
 ghost use mathlib.Core.Path.{_≡_};
 ghost use mathlib.Core.List.{[]};
 ghost use Rattle.xoodyak.specs.Calls.{absorbOf, squeezeOf, encryptInPlaceOf, decryptInPlaceOf, sealInPlaceDetachedOf, openInPlaceDetachedOf, sealDetachedOf, openDetachedOf};
-ghost use Rattle.capi.specs.Capi.{modeOf, phaseOf, ruleOf, modeNo, phaseNo, ruleNo, sound, sessionOf, headOf, exported};
+ghost use Rattle.capi.specs.Capi.{modeOf, phaseOf, ruleOf, begunOf, kindOf, modeNo, phaseNo, ruleNo, begunNo, kindNo, sound, sessionOf, headOf, exported};
 use xoodyak::Rule;
 use xoodyak::Session;
 use xoodyak::cyclist::Duplex;
 use xoodyak::cyclist::Mode;
 use xoodyak::cyclist::Phase;
+use xoodyak::feed::Kind;
+use xoodyak::feed::Message;
 use xoodyak::tag::Tag;
 
 fn mode_of(n: u8) -> Mode
@@ -34,6 +37,24 @@ fn rule_of(n: u8) -> Rule
     match n {
         0 => Rule::Crate,
         _ => Rule::Specification,
+    }
+}
+
+fn begun_of(n: u8) -> bool
+    ensures { λ r. ⌜ r ≡ begunOf n ⌝ }
+{
+    match n {
+        0 => false,
+        _ => true,
+    }
+}
+
+fn kind_of(n: u8) -> Kind
+    ensures { λ r. ⌜ r ≡ kindOf n ⌝ }
+{
+    match n {
+        0 => Kind::Seal,
+        _ => Kind::Open,
     }
 }
 
@@ -64,22 +85,47 @@ fn rule_no(rule: Rule) -> u8
     }
 }
 
-fn sound(head: [u8; 3]) -> bool
-    ensures { λ r. ⌜ r ≡ sound head ⌝ }
+fn begun_no(begun: bool) -> u8
+    ensures { λ r. ⌜ r ≡ begunNo begun ⌝ }
 {
-    if head[0] < 2 {
-        if head[1] < 2 { head[2] < 2 } else { false }
-    } else {
-        false
+    if begun { 1 } else { 0 }
+}
+
+fn kind_no(kind: Kind) -> u8
+    ensures { λ r. ⌜ r ≡ kindNo kind ⌝ }
+{
+    match kind {
+        Kind::Seal => 0,
+        Kind::Open => 1,
     }
 }
 
-fn session_of(st: [u8; 48], head: [u8; 3]) -> Session
+fn sound(head: [u8; 6]) -> bool
+    ensures { λ r. ⌜ r ≡ sound head ⌝ }
+{
+    if 2 <= head[0] {
+        return false;
+    }
+    if 2 <= head[1] {
+        return false;
+    }
+    if 2 <= head[2] {
+        return false;
+    }
+    if 2 <= head[3] {
+        return false;
+    }
+    head[4] < 2
+}
+
+fn session_of(st: [u8; 48], head: [u8; 6]) -> Session
     ensures { λ r. ⌜ r ≡ sessionOf st head ⌝ }
 {
     let mode = mode_of(head[0]);
     let phase = phase_of(head[1]);
     let rule = rule_of(head[2]);
+    let begun = begun_of(head[3]);
+    let kind = kind_of(head[4]);
     Session {
         duplex: Duplex {
             st: st,
@@ -87,24 +133,33 @@ fn session_of(st: [u8; 48], head: [u8; 3]) -> Session
             phase: phase,
         },
         rule: rule,
+        message: Message {
+            begun: begun,
+            kind: kind,
+            place: head[5],
+        },
     }
 }
 
-fn head_of(s: Session) -> [u8; 3]
+fn head_of(s: Session) -> [u8; 6]
     ensures { λ r. ⌜ r ≡ headOf s ⌝ }
 {
     let d = s.duplex;
     let mode = d.mode;
     let phase = d.phase;
     let rule = s.rule;
+    let message = s.message;
+    let kind = message.kind;
     let m = mode_no(mode);
     let p = phase_no(phase);
     let r = rule_no(rule);
-    [m, p, r]
+    let b = begun_no(message.begun);
+    let k = kind_no(kind);
+    [m, p, r, b, k, message.place]
 }
 
 #[no_mangle]
-pub extern "C" fn lafomeihu_absorb(st: &mut [u8; 48], head: &mut [u8; 3], bin: &[u8]) -> u8
+pub extern "C" fn lafomeihu_absorb(st: &mut [u8; 48], head: &mut [u8; 6], bin: &[u8]) -> u8
     ensures { λ r. ⌜ r ≡ exported (now (st .entry)) (now (head .entry)) [] [] (λ s. absorbOf s (now (bin .entry))) .number ⌝ }
     ensures { λ _. ⌜ now (st .exit) ≡ exported (now (st .entry)) (now (head .entry)) [] [] (λ s. absorbOf s (now (bin .entry))) .st ⌝ }
     ensures { λ _. ⌜ now (head .exit) ≡ exported (now (st .entry)) (now (head .entry)) [] [] (λ s. absorbOf s (now (bin .entry))) .head ⌝ }
@@ -125,7 +180,7 @@ pub extern "C" fn lafomeihu_absorb(st: &mut [u8; 48], head: &mut [u8; 3], bin: &
 }
 
 #[no_mangle]
-pub extern "C" fn lafomeihu_squeeze(st: &mut [u8; 48], head: &mut [u8; 3], out: &mut [u8]) -> u8
+pub extern "C" fn lafomeihu_squeeze(st: &mut [u8; 48], head: &mut [u8; 6], out: &mut [u8]) -> u8
     ensures { λ r. ⌜ r ≡ exported (now (st .entry)) (now (head .entry)) (now (out .entry)) [] (λ s. squeezeOf 0x40 s (now (out .entry))) .number ⌝ }
     ensures { λ _. ⌜ now (st .exit) ≡ exported (now (st .entry)) (now (head .entry)) (now (out .entry)) [] (λ s. squeezeOf 0x40 s (now (out .entry))) .st ⌝ }
     ensures { λ _. ⌜ now (head .exit) ≡ exported (now (st .entry)) (now (head .entry)) (now (out .entry)) [] (λ s. squeezeOf 0x40 s (now (out .entry))) .head ⌝ }
@@ -149,7 +204,7 @@ pub extern "C" fn lafomeihu_squeeze(st: &mut [u8; 48], head: &mut [u8; 3], out: 
 #[no_mangle]
 pub extern "C" fn lafomeihu_encrypt_in_place(
     st: &mut [u8; 48],
-    head: &mut [u8; 3],
+    head: &mut [u8; 6],
     in_out: &mut [u8],
 ) -> u8
     ensures { λ r. ⌜ r ≡ exported (now (st .entry)) (now (head .entry)) (now («in_out» .entry)) [] (λ s. encryptInPlaceOf s (now («in_out» .entry))) .number ⌝ }
@@ -175,7 +230,7 @@ pub extern "C" fn lafomeihu_encrypt_in_place(
 #[no_mangle]
 pub extern "C" fn lafomeihu_decrypt_in_place(
     st: &mut [u8; 48],
-    head: &mut [u8; 3],
+    head: &mut [u8; 6],
     in_out: &mut [u8],
 ) -> u8
     ensures { λ r. ⌜ r ≡ exported (now (st .entry)) (now (head .entry)) (now («in_out» .entry)) [] (λ s. decryptInPlaceOf s (now («in_out» .entry))) .number ⌝ }
@@ -201,7 +256,7 @@ pub extern "C" fn lafomeihu_decrypt_in_place(
 #[no_mangle]
 pub extern "C" fn lafomeihu_seal_in_place_detached(
     st: &mut [u8; 48],
-    head: &mut [u8; 3],
+    head: &mut [u8; 6],
     in_out: &mut [u8],
     tag: &mut [u8; 16],
 ) -> u8
@@ -232,7 +287,7 @@ pub extern "C" fn lafomeihu_seal_in_place_detached(
 #[no_mangle]
 pub extern "C" fn lafomeihu_open_in_place_detached(
     st: &mut [u8; 48],
-    head: &mut [u8; 3],
+    head: &mut [u8; 6],
     in_out: &mut [u8],
     tag: &[u8; 16],
 ) -> u8
@@ -260,7 +315,7 @@ pub extern "C" fn lafomeihu_open_in_place_detached(
 #[no_mangle]
 pub extern "C" fn lafomeihu_seal_detached(
     st: &mut [u8; 48],
-    head: &mut [u8; 3],
+    head: &mut [u8; 6],
     out: &mut [u8],
     bin: &[u8],
     tag: &mut [u8; 16],
@@ -292,7 +347,7 @@ pub extern "C" fn lafomeihu_seal_detached(
 #[no_mangle]
 pub extern "C" fn lafomeihu_open_detached(
     st: &mut [u8; 48],
-    head: &mut [u8; 3],
+    head: &mut [u8; 6],
     out: &mut [u8],
     tag: &[u8; 16],
     bin: &[u8],

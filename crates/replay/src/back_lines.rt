@@ -34,8 +34,9 @@ fn before(s: Session, p: Phase, b: Before) -> Answer {
     let st = b.st;
     let mode = d.mode;
     let rule = s.rule;
+    let message = s.message;
     Answer {
-        session: session(st, mode, p, rule),
+        session: session(st, mode, p, rule, message),
         number: 0,
         missing: 0,
     }

@@ -2,6 +2,7 @@
 mod aead_lines;
 mod back_lines;
 mod crypt_lines;
+mod feed_lines;
 mod hex;
 mod out;
 mod session_lines;
@@ -109,6 +110,9 @@ fn answer(m: State, text: &[u8], n: usize, out: &mut [u8], at: &mut usize) -> St
     }
     if begins(name, b"encrypt") || begins(name, b"decrypt") {
         return m.with_session(crypt_lines::answer(s, line, out, at));
+    }
+    if same(name, b"begin") || same(name, b"feed") || same(name, b"finish") {
+        return m.with_session(feed_lines::answer(s, line, out, at));
     }
     if same(name, b"back") {
         return m.with_session(back_lines::answer(s, rest(line), out, at));

@@ -118,3 +118,29 @@ pub fn number_buf_tag(
 ) {
     number_buf_more(out, at, n, missing, buf, tag);
 }
+
+// What a feed answers after its buffer: the bytes taken and the permutations spent.
+pub fn counts(out: &mut [u8], at: &mut usize, taken: usize, spent: usize) {
+    byte(out, at, b' ');
+    decimal(out, at, taken as u64);
+    last_count(out, at, spent);
+}
+
+fn last_count(out: &mut [u8], at: &mut usize, n: usize) {
+    byte(out, at, b' ');
+    decimal(out, at, n as u64);
+    byte(out, at, b'\n');
+}
+
+// What a finish answers: its number, sealing's tag, and the permutations spent.
+pub fn number_count(out: &mut [u8], at: &mut usize, n: u8, spent: usize) {
+    decimal(out, at, n as u64);
+    last_count(out, at, spent);
+}
+
+pub fn number_tag_count(out: &mut [u8], at: &mut usize, n: u8, tag: &[u8; 16], spent: usize) {
+    decimal(out, at, n as u64);
+    byte(out, at, b' ');
+    hex(out, at, tag);
+    last_count(out, at, spent);
+}

@@ -20,6 +20,8 @@ use xoodyak::Session;
 use xoodyak::cyclist::Duplex;
 use xoodyak::cyclist::Mode;
 use xoodyak::cyclist::Phase;
+use xoodyak::feed::Kind;
+use xoodyak::feed::Message;
 use xoodyak::tag::Tag;
 
 // Calls whose lines have one shape; a session made new has its rule, a call walked back the phase before it.
@@ -58,7 +60,7 @@ pub fn done(r: Answer, out: &mut [u8], at: &mut usize) -> Session {
     r.session
 }
 
-pub fn session(st: [u8; 48], mode: Mode, phase: Phase, rule: Rule) -> Session {
+pub fn session(st: [u8; 48], mode: Mode, phase: Phase, rule: Rule, message: Message) -> Session {
     let duplex = Duplex {
         st: st,
         mode: mode,
@@ -67,6 +69,15 @@ pub fn session(st: [u8; 48], mode: Mode, phase: Phase, rule: Rule) -> Session {
     Session {
         duplex: duplex,
         rule: rule,
+        message: message,
+    }
+}
+
+fn none_begun() -> Message {
+    Message {
+        begun: false,
+        kind: Kind::Seal,
+        place: 0,
     }
 }
 
@@ -85,7 +96,7 @@ fn set(s: Session, words: &[u8], out: &mut [u8], at: &mut usize) -> Session {
     }
     out::number(out, at, 0);
     let rule = s.rule;
-    session(st, m, p, rule)
+    session(st, m, p, rule, none_begun())
 }
 
 fn mode_name(out: &mut [u8], at: &mut usize, m: Mode) {

@@ -7,6 +7,7 @@ use check::same;
 use xoodyak::Rule;
 use xoodyak::cyclist::Mode;
 use xoodyak::cyclist::Phase;
+use xoodyak::feed::Kind;
 
 // What a word gave: whether it was well formed, and the number, or the count of bytes put at the front of a buffer.
 pub struct Got {
@@ -33,6 +34,11 @@ pub enum ModeWord {
 
 pub enum RuleWord {
     Is(Rule),
+    Other,
+}
+
+pub enum KindWord {
+    Is(Kind),
     Other,
 }
 
@@ -231,6 +237,16 @@ pub fn rule(word: &[u8]) -> RuleWord {
         return RuleWord::Is(Rule::Specification);
     }
     RuleWord::Other
+}
+
+pub fn kind(word: &[u8]) -> KindWord {
+    if same(word, b"seal") {
+        return KindWord::Is(Kind::Seal);
+    }
+    if same(word, b"open") {
+        return KindWord::Is(Kind::Open);
+    }
+    KindWord::Other
 }
 
 // The four words of a key call, at the front of four buffers.

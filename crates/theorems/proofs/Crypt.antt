@@ -8,10 +8,11 @@ use native.Mathlib.Nat.{not-suc-le-zero, le-refl}
 use native.Mathlib.Omega.{arith}
 use lib.Dec.{eqb, lit<, lit≤}
 use lib.ListN.{length, take, drop, length-append, length-take, length-drop, take-append-drop}
-use lib.Seq.{take-at, drop-at, take-all, length-take-le}
+use lib.Seq.{take-at, drop-at, take-all, length-take-le, set-getD}
 use borrow.Author.Tests.{eqb-true, eq-eqb}
-use Rattle.laws.specs.Lists.{addFront}
+use Rattle.laws.specs.Lists.{addFront, addAt}
 use Rattle.laws.specs.Blocks.{cuts, blocks, sizes}
+use Rattle.laws.proofs.Words.{⊕-zero}
 use Rattle.laws.proofs.Lists.{length-addFront, addFront-back}
 use Rattle.laws.proofs.Blocks.{cuts-step, cuts-nil, blocks-step, sizes-step, sizes-zero}
 use Rattle.xoodoo.proofs.Inverse.{xoodoo-length}
@@ -24,8 +25,8 @@ use Rattle.xoodyak.specs.declared.Rule.{Rule}
 use Rattle.xoodyak.specs.declared.Rule.the-variants.{Crate, Specification}
 use Rattle.xoodyak.specs.declared.Session.{Session}
 use Rattle.xoodyak.specs.Cyclist.{squeezeRate, upBytes, up, down, readyFrom, ready, absorbBlocks, absorb, moreBlocks, absorbMore, next, nextsEnd, nextsOut, squeezeMoreEnd, squeezeMoreOut, squeezeEnd, squeezeOut, messageBlocks, encEnd, encOut, decEnd, decOut, ratchet, ifGiven, keyCall}
-use Rattle.xoodyak.specs.Numbers.{first}
-use Rattle.xoodyak.specs.Calls.{encryptEnd, encryptOut, decryptEnd, decryptOut, both, sameBytes, tagNumber, verdict, opened, tagEnd, tagOut}
+use Rattle.xoodyak.specs.Numbers.{when, first, unfinishedNumber, modeNumber, keyedNumber}
+use Rattle.xoodyak.specs.Calls.{mode, encryptEnd, encryptOut, decryptEnd, decryptOut, both, sameBytes, tagNumber, verdict, opened, tagEnd, tagOut}
 
 -- a buffer of a combined call: all but its last 16 bytes, and those
 abbrev pub allBut16 : List ℕ → List ℕ
@@ -115,6 +116,10 @@ key-mode d key hasId id nonce hasCounter counter =
     given-mode hasCounter 1 0 _ d counter (given-mode hasId 44 0 _ d nonce (absorb-mode 44 2 d _))
 
 -- ---- lengths
+-- adding nothing changes nothing
+pub add-zero-at : (s : List ℕ) (i : ℕ) → addAt s i 0 ≡ s
+add-zero-at s i = rw ⊕-zero (set-getD s i 0)
+
 -- after Up there are 48 bytes, whatever there were before
 pub up-length : (d : Duplex) (cu : ℕ) → length (up d cu .st) ≡ 48
 unfolding up upBytes
@@ -169,7 +174,7 @@ one-block r x p e =
     ∙ ap₂ _∷_ (take-all r x (omega arith)) (cuts-nil r (drop r x) (rw length-drop (omega arith)))
 
 -- what holds of the empty message, and of a message where it holds of what follows the first block, holds of all
-by-blocks :
+pub by-blocks :
     (P : List ℕ → Type 0) → P []
     → ((m : List ℕ) (k : ℕ) → 0 < length m → k ≡ min 24 (length m) → P (drop k m) → P m)
     → (m : List ℕ) → P m
@@ -328,7 +333,7 @@ tag-decides x y = go (sameBytes x y) refl
         let q : x ≢ y = λ p. let z : _≡_ {A = ℕ} 0 1 = cc (same-bytes x y .1 p) in omega arith in
         (inr refl, (λ z. absurd (omega arith), λ p. absurd (q p)), (λ _. q, λ _. refl))
 
-verdict-number : (b : Bool) (s : Session) (good bad : List ℕ) → verdict b s good bad .number ≡ tagNumber b
+pub verdict-number : (b : Bool) (s : Session) (good bad : List ℕ) → verdict b s good bad .number ≡ tagNumber b
 verdict-number true s good bad = refl
 verdict-number false s good bad = refl
 
@@ -342,3 +347,8 @@ opened-decides s t c good bad =
 pub first-zero : (n : ℕ) → first n 0 ≡ n
 first-zero zero = refl
 first-zero (suc n) = refl
+
+-- a keyed session with no message begun meets neither 7 nor 1
+pub keyed-taken : (s : Session) → s .message .begun ≡ false → mode s ≡ Keyed → keyedNumber s ≡ 0
+unfolding keyedNumber unfinishedNumber
+keyed-taken s idle keyed = ap₂ (λ b m. first (when b 7) (modeNumber m)) idle keyed

@@ -63,6 +63,14 @@ use Rattle.xoodyak.proofs.Session.aead_decrypt_in_place_detached.Reads as aead-
 use Rattle.xoodyak.proofs.Session.aead_decrypt_in_place_detached.Kinds as aead-decrypt-in-place-detached-k
 use Rattle.xoodyak.proofs.Session.aead_decrypt_in_place.Reads as aead-decrypt-in-place
 use Rattle.xoodyak.proofs.Session.aead_decrypt_in_place.Kinds as aead-decrypt-in-place-k
+use Rattle.xoodyak.proofs.Session.begin.Reads as begin
+use Rattle.xoodyak.proofs.Session.begin.Kinds as begin-k
+use Rattle.xoodyak.proofs.Session.feed.Reads as feed
+use Rattle.xoodyak.proofs.Session.feed.Kinds as feed-k
+use Rattle.xoodyak.proofs.Session.finish_seal.Reads as finish-seal
+use Rattle.xoodyak.proofs.Session.finish_seal.Kinds as finish-seal-k
+use Rattle.xoodyak.proofs.Session.finish_open.Reads as finish-open
+use Rattle.xoodyak.proofs.Session.finish_open.Kinds as finish-open-k
 use Rattle.xoodyak.proofs.aead.plaintext_part.Reads as plaintext-part
 use Rattle.xoodyak.proofs.aead.plaintext_part.Kinds as plaintext-part-k
 use Rattle.xoodyak.proofs.tag.Tag.default.Reads as tag-default
@@ -209,6 +217,19 @@ aead-decrypt-in-place-decided κs a x x′ e e′ = twice
 
 pub plaintext-part-decided : Decides 1 plaintext-part-k.ps plaintext-part-k.r plaintext-part.Post (λ κs x x′ e e′. (x .ptr ≡ x′ .ptr) × (x .now ≡ x′ .now))
 plaintext-part-decided κs a x x′ e e′ = twice
+
+-- ---- a message handed over bit by bit
+pub begin-decided : Decides 0 begin-k.ps begin-k.r begin.Post (λ κs x x′ e e′. x ≡ x′)
+begin-decided κs a x x′ e e′ = once
+
+pub feed-decided : Decides 2 feed-k.ps feed-k.r feed.Post (λ κs x x′ e e′. (x ≡ x′) × (e .1 .1 .0 .now ≡ e′ .1 .1 .0 .now))
+feed-decided κs a x x′ e e′ = twice
+
+pub finish-seal-decided : Decides 0 finish-seal-k.ps finish-seal-k.r finish-seal.Post (λ κs x x′ e e′. x ≡ x′)
+finish-seal-decided κs a x x′ e e′ = once
+
+pub finish-open-decided : Decides 0 finish-open-k.ps finish-open-k.r finish-open.Post (λ κs x x′ e e′. x ≡ x′)
+finish-open-decided κs a x x′ e e′ = once
 
 -- ---- the tag
 pub tag-default-decided : Decides 0 tag-default-k.ps tag-default-k.r tag-default.Post (λ κs x x′ e e′. x ≡ x′)

@@ -12,10 +12,13 @@ use Rattle.xoodyak.specs.declared.cyclist.Mode.{Mode}
 use Rattle.xoodyak.specs.declared.cyclist.Mode.the-variants.{Hash, Keyed}
 use Rattle.xoodyak.specs.declared.tag.Tag.{Tag}
 use Rattle.xoodyak.specs.declared.Rule.{Rule}
+use Rattle.xoodyak.specs.declared.feed.Kind.{Kind}
+use Rattle.xoodyak.specs.declared.feed.Kind.the-variants.{Seal, Open}
 use Rattle.xoodyak.specs.declared.Session.{Session}
-use Rattle.xoodyak.specs.Cyclist.{absorbRate, given}
-use Rattle.xoodyak.specs.Numbers.{when, first, modeNumber, keyNumber, roomNumber, missing, tailNumber, rateNumber}
+use Rattle.xoodyak.specs.Cyclist.{absorbRate, given, squeezeOut}
+use Rattle.xoodyak.specs.Numbers.{when, first, unfinishedNumber, modeNumber, keyedNumber, keyNumber, roomNumber, missing, tailNumber, rateNumber, begunNumber, kindNumber}
 use Rattle.xoodyak.specs.Calls.{Outcome, refused, settle, session, mode, both, sameBytes, verdict, opened, tagEnd, tagOut, decryptEnd, verifyOf, absorbOf, absorbMoreOf, squeezeOf, squeezeMoreOf, keyOf, newOf, ratchetOf, encryptOf, decryptOf, encryptInPlaceOf, decryptInPlaceOf, sealDetachedOf, sealOf, sealInPlaceDetachedOf, sealInPlaceOf, openDetachedOf, openOf, openInPlaceDetachedOf, openInPlaceOf}
+use Rattle.xoodyak.specs.Feed.{Portion, portioned, beginOf, feedOf, ended, finishSealOf, finishOpenOf}
 use Rattle.theorems.proofs.Crypt.{allBut16, last16, first-zero, both-true, Decides, tag-decides, opened-decides}
 
 -- ---- the table
@@ -149,6 +152,36 @@ mode-row : (m : Mode) → First (modeNumber m) ((1, m ≡ Hash) ∷ [])
 mode-row Hash = given-row refl refl
 mode-row Keyed = no-row (keyed-iff Keyed .1 refl) refl
 
+-- a message is begun and not finished
+abbrev pub Unfinished : Session → Type 0
+Unfinished s = s .message .begun ≡ true
+
+pub finished : (s : Session) → s .message .begun ≡ false → ¬ Unfinished s
+finished s e h = let z : _≡_ {A = ℕ} 0 1 = cc in omega arith
+
+unfinished-row : (s : Session) → First (unfinishedNumber s) ((7, Unfinished s) ∷ [])
+unfolding unfinishedNumber
+unfinished-row s = when-row (s .message .begun) 7 _ (λ e. e) (finished s)
+
+keyed-rows : (s : Session) → First (keyedNumber s) ((7, Unfinished s) ∷ (1, mode s ≡ Hash) ∷ [])
+unfolding keyedNumber
+keyed-rows s = then (unfinished-row s) (mode-row (mode s)) refl
+
+-- a message of this kind is begun
+abbrev pub Begun : Kind → Session → Type 0
+Begun kind s = (s .message .begun ≡ true) × (s .message .kind ≡ kind)
+
+begun-row : (b : Bool) (kind begun : Kind) → First (begunNumber b kind begun) ((7, ¬ ((b ≡ true) × (begun ≡ kind))) ∷ [])
+begun-row true Seal Seal = no-row (λ n. n (refl, refl)) refl
+begun-row true Open Open = no-row (λ n. n (refl, refl)) refl
+begun-row true Seal Open = given-row (λ e. let z : _≡_ {A = ℕ} 0 1 = cc (e .1) in omega arith) refl
+begun-row true Open Seal = given-row (λ e. let z : _≡_ {A = ℕ} 0 1 = cc (e .1) in omega arith) refl
+begun-row false kind begun = given-row (λ e. let z : _≡_ {A = ℕ} 0 1 = cc (e .0) in omega arith) refl
+
+kind-row : (kind : Kind) (s : Session) → First (kindNumber kind s) ((7, ¬ (Begun kind s)) ∷ [])
+unfolding kindNumber
+kind-row kind s = begun-row (s .message .begun) kind (s .message .kind)
+
 -- the key alone exceeds 43; the key fits, but key and key id together exceed 43; only the nonce breaks it
 abbrev pub keyRows : ℕ → ℕ → ℕ → List Row
 keyRows key id nonce = (2, 43 < key) ∷ (8, 43 < key + id) ∷ (9, 44 < key + 1 + id + nonce) ∷ []
@@ -229,35 +262,71 @@ opening n k s o t c good bad f counts h g = record {
   refusal = settle-refusal n k s o (opened s t c good bad) (opened-decides s t c good bad .0);
 }
 
+-- ---- the calls on a message handed over bit by bit
+-- what their outcome has of any other's
+abbrev pub outcomeOf : Portion → Outcome
+outcomeOf x = record { session = x .session; number = x .number; missing = x .missing; tag = x .tag; bytes = x .bytes }
+
+-- and after all but 0 and 4 nothing was taken or spent
+pub record Portions (x : Portion) (s : Session) (o : List ℕ) (lacks : ℕ) (rows : List Row) : Type 0 where
+  pub answers : Answers (outcomeOf x) s o lacks rows
+  pub idle : x .number ≢ 0 → x .number ≢ 4 → (x .taken ≡ 0) × (x .spent ≡ 0)
+
+portioned-outcome : (n k : ℕ) (s : Session) (o : List ℕ) (x : Portion) → outcomeOf (portioned n k s o x) ≡ settle n k s o (outcomeOf x)
+portioned-outcome zero k s o x = refl
+portioned-outcome (suc n) k s o x = refl
+
+portioned-idle :
+    (n k : ℕ) (s : Session) (o : List ℕ) (x : Portion) → (x .number ≡ 0) ⊎ (x .number ≡ 4)
+    → portioned n k s o x .number ≢ 0 → portioned n k s o x .number ≢ 4 → (portioned n k s o x .taken ≡ 0) × (portioned n k s o x .spent ≡ 0)
+portioned-idle zero k s o x (inl e) p q = absurd (p e)
+portioned-idle zero k s o x (inr e) p q = absurd (q e)
+portioned-idle (suc n) k s o x e p q = (refl, refl)
+
+portion :
+    (n k : ℕ) {lacks : ℕ} (s : Session) (o : List ℕ) (x : Portion) {rows more : List Row} → First n rows → First (x .number) more
+    → Counts n k lacks → (x .number ≡ 0) ⊎ (x .number ≡ 4) → x .missing ≡ 0 → distinct rows ≡ true → distinct (rows ++ more) ≡ true
+    → Portions (portioned n k s o x) s o lacks (rows ++ more)
+portion n k s o x f f′ c e z h g = record {
+  answers = rw (portioned-outcome n k s o x) (record {
+    number = rw (settle-number n k s o (outcomeOf x)) (table (then f f′ h) g);
+    count = settle-count n k _ s o (outcomeOf x) c e z;
+    refusal = settle-refusal n k s o (outcomeOf x) e;
+  });
+  idle = portioned-idle n k s o x e;
+}
+
 -- ---- the table of each call
--- `absorb` is never refused
-pub absorb-taken : (s : Session) (x : List ℕ) → (absorbOf s x .number ≡ 0) × (absorbOf s x .missing ≡ 0)
+-- `absorb`: 7 on an unfinished message
+pub absorb-answers : (s : Session) (x : List ℕ) → Answers (absorbOf s x) s [] 0 ((7, Unfinished s) ∷ [])
 unfolding absorbOf
-absorb-taken s x = (refl, refl)
+absorb-answers s x = plain _ _ s [] _ (unfinished-row s) (no-count _) refl refl refl
 
--- nor are `squeeze` and `squeeze_key`
-pub squeeze-taken : (cu : ℕ) (s : Session) (o : List ℕ) → (squeezeOf cu s o .number ≡ 0) × (squeezeOf cu s o .missing ≡ 0)
+-- `squeeze` and `squeeze_key`: the same
+pub squeeze-answers : (cu : ℕ) (s : Session) (o : List ℕ) → Answers (squeezeOf cu s o) s o 0 ((7, Unfinished s) ∷ [])
 unfolding squeezeOf
-squeeze-taken cu s o = (refl, refl)
+squeeze-answers cu s o = plain _ _ s o _ (unfinished-row s) (no-count _) refl refl refl
 
--- nor is `squeeze_more`
-pub squeeze-more-taken : (s : Session) (o : List ℕ) → (squeezeMoreOf s o .number ≡ 0) × (squeezeMoreOf s o .missing ≡ 0)
+-- `squeeze_more`: the same
+pub squeeze-more-answers : (s : Session) (o : List ℕ) → Answers (squeezeMoreOf s o) s o 0 ((7, Unfinished s) ∷ [])
 unfolding squeezeMoreOf
-squeeze-more-taken s o = (refl, refl)
+squeeze-more-answers s o = plain _ _ s o _ (unfinished-row s) (no-count _) refl refl refl
 
--- `absorb_more`: 5 where the rate is 0 or above the session's absorb rate, even on empty input
-pub absorb-more-answers : (s : Session) (x : List ℕ) (r : ℕ) → Answers (absorbMoreOf s x r) s [] 0 ((5, (r ≡ 0) ⊎ (absorbRate (mode s) < r)) ∷ [])
+-- `absorb_more`: 7 on an unfinished message; 5 where the rate is 0 or above the session's absorb rate, even on empty input
+pub absorb-more-answers :
+    (s : Session) (x : List ℕ) (r : ℕ)
+    → Answers (absorbMoreOf s x r) s [] 0 ((7, Unfinished s) ∷ (5, (r ≡ 0) ⊎ (absorbRate (mode s) < r)) ∷ [])
 unfolding absorbMoreOf
-absorb-more-answers s x r = plain _ _ s [] _ (rate-row (mode s) r) (no-count _) refl refl refl
+absorb-more-answers s x r = plain _ _ s [] _ (then (unfinished-row s) (rate-row (mode s) r) refl) (no-count _) refl refl refl
 
 module _ (key : List ℕ) (hasId : Bool) (id : List ℕ) (hasNonce : Bool) (nonce : List ℕ) (hasCounter : Bool) (counter : List ℕ) where
-  -- `absorb_key_and_nonce`: 1 in Hash; 2, 8 or 9 by the lengths of key, key id and nonce
+  -- `absorb_key_and_nonce`: 7 on an unfinished message; 1 in Hash; 2, 8 or 9 by the lengths of key, key id and nonce
   pub key-answers :
       (s : Session)
       → Answers (keyOf s key hasId id hasNonce nonce hasCounter counter) s [] 0
-      ((1, mode s ≡ Hash) ∷ keyRows (length key) (length (given hasId id)) (length (given hasNonce nonce)))
+      ((7, Unfinished s) ∷ (1, mode s ≡ Hash) ∷ keyRows (length key) (length (given hasId id)) (length (given hasNonce nonce)))
   unfolding keyOf
-  key-answers s = plain _ _ s [] _ (then (mode-row (mode s)) (key-rows (length key) _ _) refl) (no-count _) refl refl refl
+  key-answers s = plain _ _ s [] _ (then (keyed-rows s) (key-rows (length key) _ _) refl) (no-count _) refl refl refl
 
   -- `new`: 2, 8 or 9 likewise; refused, it hands back a fresh Hash session with that rule
   pub new-answers :
@@ -268,88 +337,118 @@ module _ (key : List ℕ) (hasId : Bool) (id : List ℕ) (hasNonce : Bool) (nonc
   new-answers rule = plain _ _ (session rule Hash) [] _ (key-rows (length key) _ _) (no-count _) refl refl refl
 
 module _ (s : Session) where
-  -- `ratchet`: 1 in Hash
-  pub ratchet-answers : Answers (ratchetOf s) s [] 0 ((1, mode s ≡ Hash) ∷ [])
+  -- `ratchet`: 7 on an unfinished message; 1 in Hash
+  pub ratchet-answers : Answers (ratchetOf s) s [] 0 ((7, Unfinished s) ∷ (1, mode s ≡ Hash) ∷ [])
   unfolding ratchetOf
-  ratchet-answers = plain _ _ s [] _ (mode-row (mode s)) (no-count _) refl refl refl
+  ratchet-answers = plain _ _ s [] _ (keyed-rows s) (no-count _) refl refl refl
 
-  -- `encrypt`: 1 in Hash; 3 where the output is shorter than the message
-  pub encrypt-answers : (o m : List ℕ) → Answers (encryptOf s o m) s o (length m - length o) ((1, mode s ≡ Hash) ∷ (3, length o < length m) ∷ [])
+  -- `encrypt`: 7 on an unfinished message; 1 in Hash; 3 where the output is shorter than the message
+  pub encrypt-answers : (o m : List ℕ) → Answers (encryptOf s o m) s o (length m - length o) ((7, Unfinished s) ∷ (1, mode s ≡ Hash) ∷ (3, length o < length m) ∷ [])
   unfolding encryptOf
-  encrypt-answers o m = plain _ _ s o _ (then (mode-row (mode s)) (room-row (length o) (length m)) refl) (room-count _ (length o) (length m)) refl refl refl
+  encrypt-answers o m = plain _ _ s o _ (then (keyed-rows s) (room-row (length o) (length m)) refl) (room-count _ (length o) (length m)) refl refl refl
 
   -- `decrypt`: the same
-  pub decrypt-answers : (o c : List ℕ) → Answers (decryptOf s o c) s o (length c - length o) ((1, mode s ≡ Hash) ∷ (3, length o < length c) ∷ [])
+  pub decrypt-answers : (o c : List ℕ) → Answers (decryptOf s o c) s o (length c - length o) ((7, Unfinished s) ∷ (1, mode s ≡ Hash) ∷ (3, length o < length c) ∷ [])
   unfolding decryptOf
-  decrypt-answers o c = plain _ _ s o _ (then (mode-row (mode s)) (room-row (length o) (length c)) refl) (room-count _ (length o) (length c)) refl refl refl
+  decrypt-answers o c = plain _ _ s o _ (then (keyed-rows s) (room-row (length o) (length c)) refl) (room-count _ (length o) (length c)) refl refl refl
 
-  -- `encrypt_in_place`: 1 in Hash
-  pub encrypt-in-place-answers : (b : List ℕ) → Answers (encryptInPlaceOf s b) s b 0 ((1, mode s ≡ Hash) ∷ [])
+  -- `encrypt_in_place`: 7 on an unfinished message; 1 in Hash
+  pub encrypt-in-place-answers : (b : List ℕ) → Answers (encryptInPlaceOf s b) s b 0 ((7, Unfinished s) ∷ (1, mode s ≡ Hash) ∷ [])
   unfolding encryptInPlaceOf
-  encrypt-in-place-answers b = plain _ _ s b _ (mode-row (mode s)) (no-count _) refl refl refl
+  encrypt-in-place-answers b = plain _ _ s b _ (keyed-rows s) (no-count _) refl refl refl
 
   -- `decrypt_in_place`: the same
-  pub decrypt-in-place-answers : (b : List ℕ) → Answers (decryptInPlaceOf s b) s b 0 ((1, mode s ≡ Hash) ∷ [])
+  pub decrypt-in-place-answers : (b : List ℕ) → Answers (decryptInPlaceOf s b) s b 0 ((7, Unfinished s) ∷ (1, mode s ≡ Hash) ∷ [])
   unfolding decryptInPlaceOf
-  decrypt-in-place-answers b = plain _ _ s b _ (mode-row (mode s)) (no-count _) refl refl refl
+  decrypt-in-place-answers b = plain _ _ s b _ (keyed-rows s) (no-count _) refl refl refl
 
-  -- `aead_encrypt_detached`: 1 in Hash; 3 where the output is shorter than the message
-  pub seal-detached-answers : (o m : List ℕ) → Answers (sealDetachedOf s o m) s o (length m - length o) ((1, mode s ≡ Hash) ∷ (3, length o < length m) ∷ [])
+  -- `aead_encrypt_detached`: 7 on an unfinished message; 1 in Hash; 3 where the output is shorter than the message
+  pub seal-detached-answers : (o m : List ℕ) → Answers (sealDetachedOf s o m) s o (length m - length o) ((7, Unfinished s) ∷ (1, mode s ≡ Hash) ∷ (3, length o < length m) ∷ [])
   unfolding sealDetachedOf
-  seal-detached-answers o m = plain _ _ s o _ (then (mode-row (mode s)) (room-row (length o) (length m)) refl) (room-count _ (length o) (length m)) refl refl refl
+  seal-detached-answers o m = plain _ _ s o _ (then (keyed-rows s) (room-row (length o) (length m)) refl) (room-count _ (length o) (length m)) refl refl refl
 
-  -- `aead_encrypt`: 1 in Hash; 3 where the output is shorter than message and tag
-  pub seal-answers : (o m : List ℕ) → Answers (sealOf s o m) s o (length m + 16 - length o) ((1, mode s ≡ Hash) ∷ (3, length o < length m + 16) ∷ [])
+  -- `aead_encrypt`: 7 on an unfinished message; 1 in Hash; 3 where the output is shorter than message and tag
+  pub seal-answers : (o m : List ℕ) → Answers (sealOf s o m) s o (length m + 16 - length o) ((7, Unfinished s) ∷ (1, mode s ≡ Hash) ∷ (3, length o < length m + 16) ∷ [])
   unfolding sealOf
-  seal-answers o m = plain _ _ s o _ (then (mode-row (mode s)) (room-row (length o) (length m + 16)) refl) (room-count _ (length o) (length m + 16)) refl refl refl
+  seal-answers o m = plain _ _ s o _ (then (keyed-rows s) (room-row (length o) (length m + 16)) refl) (room-count _ (length o) (length m + 16)) refl refl refl
 
-  -- `aead_encrypt_in_place_detached`: 1 in Hash
-  pub seal-in-place-detached-answers : (b : List ℕ) → Answers (sealInPlaceDetachedOf s b) s b 0 ((1, mode s ≡ Hash) ∷ [])
+  -- `aead_encrypt_in_place_detached`: 7 on an unfinished message; 1 in Hash
+  pub seal-in-place-detached-answers : (b : List ℕ) → Answers (sealInPlaceDetachedOf s b) s b 0 ((7, Unfinished s) ∷ (1, mode s ≡ Hash) ∷ [])
   unfolding sealInPlaceDetachedOf
-  seal-in-place-detached-answers b = plain _ _ s b _ (mode-row (mode s)) (no-count _) refl refl refl
+  seal-in-place-detached-answers b = plain _ _ s b _ (keyed-rows s) (no-count _) refl refl refl
 
-  -- `aead_encrypt_in_place`: 1 in Hash; 10 where the buffer is under 16
-  pub seal-in-place-answers : (b : List ℕ) → Answers (sealInPlaceOf s b) s b 0 ((1, mode s ≡ Hash) ∷ (10, length b < 16) ∷ [])
+  -- `aead_encrypt_in_place`: 7 on an unfinished message; 1 in Hash; 10 where the buffer is under 16
+  pub seal-in-place-answers : (b : List ℕ) → Answers (sealInPlaceOf s b) s b 0 ((7, Unfinished s) ∷ (1, mode s ≡ Hash) ∷ (10, length b < 16) ∷ [])
   unfolding sealInPlaceOf
-  seal-in-place-answers b = plain _ _ s b _ (then (mode-row (mode s)) (tail-row (length b)) refl) (no-count _) refl refl refl
+  seal-in-place-answers b = plain _ _ s b _ (then (keyed-rows s) (tail-row (length b)) refl) (no-count _) refl refl refl
 
-  -- `aead_decrypt_detached`: 1 in Hash; 3 where the output is shorter than the ciphertext; 4 where the tag differs
+  -- `aead_decrypt_detached`: 7 on an unfinished message; 1 in Hash; 3 where the output is shorter than the ciphertext; 4 where the tag differs
   pub open-detached-answers :
       (o : List ℕ) (t : Tag) (c : List ℕ)
       → Answers (openDetachedOf s o t c) s o (length c - length o)
-      ((1, mode s ≡ Hash) ∷ (3, length o < length c) ∷ (4, tagOut (decryptEnd s c) ≢ t .bytes) ∷ [])
+      ((7, Unfinished s) ∷ (1, mode s ≡ Hash) ∷ (3, length o < length c) ∷ (4, tagOut (decryptEnd s c) ≢ t .bytes) ∷ [])
   unfolding openDetachedOf
   open-detached-answers o t c =
-      opening _ _ s o (t .bytes) c _ _ (then (mode-row (mode s)) (room-row (length o) (length c)) refl) (room-count _ (length o) (length c)) refl refl
+      opening _ _ s o (t .bytes) c _ _ (then (keyed-rows s) (room-row (length o) (length c)) refl) (room-count _ (length o) (length c)) refl refl
 
-  -- `aead_decrypt`: 1 in Hash; 10 where the input is under 16; 3 where the output is shorter than its result; 4 where the tag differs
+  -- `aead_decrypt`: 7 on an unfinished message; 1 in Hash; 10 where the input is under 16; 3 where the output is shorter than its result; 4 where the tag differs
   pub open-answers :
       (o b : List ℕ)
       → Answers (openOf s o b) s o (length b - 16 - length o)
-      ((1, mode s ≡ Hash)
+      ((7, Unfinished s)
+      ∷ (1, mode s ≡ Hash)
       ∷ (10, length b < 16)
       ∷ (3, length o < length b - 16)
       ∷ (4, tagOut (decryptEnd s (allBut16 b)) ≢ last16 b)
       ∷ [])
   unfolding openOf
   open-answers o b =
-      opening _ _ s o _ _ _ _ (then (then (mode-row (mode s)) (tail-row (length b)) refl) (room-row (length o) (length b - 16)) refl) (room-count _ (length o) (length b - 16)) refl refl
+      opening _ _ s o _ _ _ _ (then (then (keyed-rows s) (tail-row (length b)) refl) (room-row (length o) (length b - 16)) refl) (room-count _ (length o) (length b - 16)) refl refl
 
-  -- `aead_decrypt_in_place_detached`: 1 in Hash; 4 where the tag differs
+  -- `aead_decrypt_in_place_detached`: 7 on an unfinished message; 1 in Hash; 4 where the tag differs
   pub open-in-place-detached-answers :
       (b : List ℕ) (t : Tag)
-      → Answers (openInPlaceDetachedOf s b t) s b 0 ((1, mode s ≡ Hash) ∷ (4, tagOut (decryptEnd s b) ≢ t .bytes) ∷ [])
+      → Answers (openInPlaceDetachedOf s b t) s b 0 ((7, Unfinished s) ∷ (1, mode s ≡ Hash) ∷ (4, tagOut (decryptEnd s b) ≢ t .bytes) ∷ [])
   unfolding openInPlaceDetachedOf
-  open-in-place-detached-answers b t = opening _ _ s b (t .bytes) b _ _ (mode-row (mode s)) (no-count _) refl refl
+  open-in-place-detached-answers b t = opening _ _ s b (t .bytes) b _ _ (keyed-rows s) (no-count _) refl refl
 
-  -- `aead_decrypt_in_place`: 1 in Hash; 10 where the buffer is under 16; 4 where the tag differs
+  -- `aead_decrypt_in_place`: 7 on an unfinished message; 1 in Hash; 10 where the buffer is under 16; 4 where the tag differs
   pub open-in-place-answers :
       (b : List ℕ)
       → Answers (openInPlaceOf s b) s b 0
-      ((1, mode s ≡ Hash) ∷ (10, length b < 16) ∷ (4, tagOut (decryptEnd s (allBut16 b)) ≢ last16 b) ∷ [])
+      ((7, Unfinished s) ∷ (1, mode s ≡ Hash) ∷ (10, length b < 16) ∷ (4, tagOut (decryptEnd s (allBut16 b)) ≢ last16 b) ∷ [])
   unfolding openInPlaceOf
   open-in-place-answers b =
-      opening _ _ s b _ _ _ _ (then (mode-row (mode s)) (tail-row (length b)) refl) (no-count _) refl refl
+      opening _ _ s b _ _ _ _ (then (keyed-rows s) (tail-row (length b)) refl) (no-count _) refl refl
+
+module _ (s : Session) where
+  -- `begin`: 7 on an unfinished message; 1 in Hash
+  pub begin-answers : (kind : Kind) → Answers (beginOf kind s) s [] 0 ((7, Unfinished s) ∷ (1, mode s ≡ Hash) ∷ [])
+  unfolding beginOf
+  begin-answers kind = plain _ _ s [] _ (keyed-rows s) (no-count _) refl refl refl
+
+  -- `feed`: 7 where no message of its kind is begun; 1 in Hash; 3 where the output is shorter than the piece
+  pub feed-answers :
+      (kind : Kind) (o x : List ℕ) (a : ℕ)
+      → Portions (feedOf kind s o x a) s o (length x - length o) ((7, ¬ (Begun kind s)) ∷ (1, mode s ≡ Hash) ∷ (3, length o < length x) ∷ [])
+  unfolding feedOf
+  feed-answers kind o x a =
+      portion _ _ s o _ (then (kind-row kind s) (then (mode-row (mode s)) (room-row (length o) (length x)) refl) refl) (none refl) (room-count _ (length o) (length x)) (inl refl) refl refl refl
+
+  -- `finish_seal`: 7 where no sealing is begun; 1 in Hash
+  pub finish-seal-answers : Portions (finishSealOf s) s [] 0 ((7, ¬ (Begun Seal s)) ∷ (1, mode s ≡ Hash) ∷ [])
+  unfolding finishSealOf
+  finish-seal-answers = portion _ _ s [] _ (then (kind-row Seal s) (mode-row (mode s)) refl) (none refl) (no-count _) (inl refl) refl refl refl
+
+  -- `finish_open`: 7 where no opening is begun; 1 in Hash; 4 where the tag differs
+  pub finish-open-answers :
+      (t : Tag)
+      → Portions (finishOpenOf s t) s [] 0
+      ((7, ¬ (Begun Open s)) ∷ (1, mode s ≡ Hash) ∷ (4, squeezeOut (ended s) 16 0x40 ≢ t .bytes) ∷ [])
+  unfolding finishOpenOf
+  finish-open-answers t =
+      let d = tag-decides (squeezeOut (ended s) 16 0x40) (t .bytes) in
+      portion _ _ s [] _ (then (kind-row Open s) (mode-row (mode s)) refl) (decides-row _ _ d) (no-count _) (d .0) refl refl refl
 
 -- `Tag::verify` answers 4 where the bytes differ, and has no session
 pub verify-numbers : (t : Tag) (b : List ℕ) → Exactly (verifyOf t b) ((4, t .bytes ≢ b) ∷ [])

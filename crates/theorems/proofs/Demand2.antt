@@ -17,9 +17,9 @@ use Rattle.xoodyak.specs.declared.cyclist.Duplex.{Duplex}
 use Rattle.xoodyak.specs.declared.tag.Tag.{Tag}
 use Rattle.xoodyak.specs.declared.Session.{Session}
 use Rattle.xoodyak.specs.Cyclist.{upBytes, up, squeezeEnd, squeezeOut}
-use Rattle.xoodyak.specs.Numbers.{when, first, modeNumber, roomNumber, missing, tailNumber}
+use Rattle.xoodyak.specs.Numbers.{when, first, unfinishedNumber, modeNumber, keyedNumber, roomNumber, missing, tailNumber}
 use Rattle.xoodyak.specs.Calls.{Outcome, noTag, taken, refused, settle, mode, squeezeOf, encryptEnd, encryptOut, decryptEnd, decryptOut, encryptOf, decryptOf, encryptInPlaceOf, decryptInPlaceOf, tagEnd, tagOut, sameBytes, verdict, opened, sealDetachedOf, sealOf, sealInPlaceDetachedOf, sealInPlaceOf, openDetachedOf, openOf, openInPlaceDetachedOf, openInPlaceOf}
-use Rattle.theorems.proofs.Crypt.{allBut16, last16, first-zero, same-bytes, Decides, opened-decides, tag-length, encrypt-length, decrypt-encrypt, decrypt-encrypt-end}
+use Rattle.theorems.proofs.Crypt.{allBut16, last16, first-zero, keyed-taken, same-bytes, Decides, opened-decides, tag-length, encrypt-length, decrypt-encrypt, decrypt-encrypt-end}
 
 -- ---- calls that meet no refusal
 module _ (k : ℕ) (s : Session) (o : List ℕ) (x : Outcome) where
@@ -88,7 +88,7 @@ unfolding missing
 none-missing n room result h = let z : result - room ≡ 0 = omega arith in rw z (when-none (eqb n 3))
 
 module _ (s : Session) (b : List ℕ) where
-  own-room : first (modeNumber (mode s)) (roomNumber (length b) (length b)) ≡ modeNumber (mode s)
+  own-room : first (keyedNumber s) (roomNumber (length b) (length b)) ≡ keyedNumber s
   own-room = rw (fits (length b) (length b) (le-refl _)) (first-zero _)
 
   -- in place is by copy onto the input itself
@@ -121,7 +121,7 @@ module _ (s : Session) (b : List ℕ) where
     unfolding openOf openDetachedOf
     open-agrees o =
         let l : length (allBut16 b) ≡ length b - 16 = length-take-le (length b - 16) b (omega arith) in
-        rw (holds-tag (length b) h, first-zero (modeNumber (mode s)), l)
+        rw (holds-tag (length b) h, first-zero (keyedNumber s), l)
 
     -- in place it is the detached one before those 16 bytes
     pub open-in-place-agrees :
@@ -134,16 +134,17 @@ module _ (s : Session) (b : List ℕ) where
         let t = drop n b in
         let l : length c ≡ n = length-take-le n b (omega arith) in
         rw (holds-tag (length b) h, first-zero, l)
-        (ap₂ (settle (modeNumber (mode s)) 0 s) (sym (take-append-drop n b)) (opened-followed s t c (decryptOut s c) (replicate n 0) t)
-        ∙ settle-followed (modeNumber (mode s)) 0 s c (opened s t c (decryptOut s c) (replicate n 0)) t)
+        (ap₂ (settle (keyedNumber s) 0 s) (sym (take-append-drop n b)) (opened-followed s t c (decryptOut s c) (replicate n 0) t)
+        ∙ settle-followed (keyedNumber s) 0 s c (opened s t c (decryptOut s c) (replicate n 0)) t)
 
-module _ (s : Session) (keyed : mode s ≡ Keyed) where
-  keyed-call : modeNumber (mode s) ≡ 0
-  keyed-call = ap modeNumber keyed
+-- a keyed session with no message begun
+module _ (s : Session) (idle : s .message .begun ≡ false) (keyed : mode s ≡ Keyed) where
+  keyed-call : keyedNumber s ≡ 0
+  keyed-call = keyed-taken s idle keyed
 
   -- ---- what each call does
   module _ (o m : List ℕ) (h : length m ≤ length o) where
-    room : first (modeNumber (mode s)) (roomNumber (length o) (length m)) ≡ 0
+    room : first (keyedNumber s) (roomNumber (length o) (length m)) ≡ 0
     room = none-of keyed-call (fits (length o) (length m) h)
 
     pub encrypt-is : encryptOf s o m ≡ taken (encryptEnd s m) noTag (encryptOut s m ++ drop (length m) o)
@@ -182,11 +183,11 @@ module _ (s : Session) (keyed : mode s ≡ Keyed) where
   unfolding decryptInPlaceOf
   decrypt-in-place-is b = no-refusal _ s b _ keyed-call
 
-  seal-in-place-detached-is : (b : List ℕ) → sealInPlaceDetachedOf s b ≡ taken (tagEnd (encryptEnd s b)) (tagOut (encryptEnd s b)) (encryptOut s b)
+  pub seal-in-place-detached-is : (b : List ℕ) → sealInPlaceDetachedOf s b ≡ taken (tagEnd (encryptEnd s b)) (tagOut (encryptEnd s b)) (encryptOut s b)
   unfolding sealInPlaceDetachedOf
   seal-in-place-detached-is b = no-refusal _ s b _ keyed-call
 
-  open-in-place-detached-is : (b : List ℕ) (t : Tag) → openInPlaceDetachedOf s b t ≡ opened s (t .bytes) b (decryptOut s b) (replicate (length b) 0)
+  pub open-in-place-detached-is : (b : List ℕ) (t : Tag) → openInPlaceDetachedOf s b t ≡ opened s (t .bytes) b (decryptOut s b) (replicate (length b) 0)
   unfolding openInPlaceDetachedOf
   open-in-place-detached-is b t = no-refusal _ s b _ keyed-call
 
@@ -357,17 +358,21 @@ no-other-tag {s} {m} {c} {t} x d =
 
 -- ---- after 4
 -- no number that comes before 4 is 4
-mode-other : (m : Mode) → modeNumber m ≢ 4
-mode-other Hash e = omega arith
-mode-other Keyed e = omega arith
-
-when-other : (b : Bool) (n : ℕ) → n ≢ 4 → when b n ≢ 4
+pub when-other : (b : Bool) (n : ℕ) → n ≢ 4 → when b n ≢ 4
 when-other true n h e = h e
 when-other false n h e = omega arith
 
-first-other : (a b : ℕ) → a ≢ 4 → b ≢ 4 → first a b ≢ 4
+pub first-other : (a b : ℕ) → a ≢ 4 → b ≢ 4 → first a b ≢ 4
 first-other zero b p q = q
 first-other (suc a) b p q = p
+
+pub mode-other : (m : Mode) → modeNumber m ≢ 4
+mode-other Hash e = omega arith
+mode-other Keyed e = omega arith
+
+keyed-other : (s : Session) → keyedNumber s ≢ 4
+unfolding keyedNumber unfinishedNumber
+keyed-other s = first-other _ _ (when-other (s .message .begun) 7 (λ e. omega arith)) (mode-other (mode s))
 
 room-other : (room result : ℕ) → roomNumber room result ≢ 4
 unfolding roomNumber
@@ -394,7 +399,7 @@ pub open-detached-4 :
     (s : Session) (o c : List ℕ) (t : Tag) → openDetachedOf s o t c .number ≡ 4
     → openDetachedOf s o t c ≡ refused (tagEnd (decryptEnd s c)) 4 0 (replicate (length o) 0)
 unfolding openDetachedOf
-open-detached-4 s o c t e = opened-4 _ _ s o (t .bytes) c _ _ (first-other _ _ (mode-other (mode s)) (room-other (length o) (length c))) e
+open-detached-4 s o c t e = opened-4 _ _ s o (t .bytes) c _ _ (first-other _ _ (keyed-other s) (room-other (length o) (length c))) e
 
 -- the same, combined
 pub open-4 :
@@ -402,21 +407,21 @@ pub open-4 :
     → openOf s o b ≡ refused (tagEnd (decryptEnd s (allBut16 b))) 4 0 (replicate (length o) 0)
 unfolding openOf
 open-4 s o b e =
-    opened-4 _ _ s o _ _ _ _ (first-other _ _ (first-other _ _ (mode-other (mode s)) (tail-other (length b))) (room-other (length o) (length b - 16))) e
+    opened-4 _ _ s o _ _ _ _ (first-other _ _ (first-other _ _ (keyed-other s) (tail-other (length b))) (room-other (length o) (length b - 16))) e
 
 -- the detached in-place form zeroes its buffer
 pub open-in-place-detached-4 :
     (s : Session) (b : List ℕ) (t : Tag) → openInPlaceDetachedOf s b t .number ≡ 4
     → openInPlaceDetachedOf s b t ≡ refused (tagEnd (decryptEnd s b)) 4 0 (replicate (length b) 0)
 unfolding openInPlaceDetachedOf
-open-in-place-detached-4 s b t e = opened-4 _ _ s b (t .bytes) b _ _ (mode-other (mode s)) e
+open-in-place-detached-4 s b t e = opened-4 _ _ s b (t .bytes) b _ _ (keyed-other s) e
 
 -- the combined in-place form zeroes all but the last 16 bytes, which keep the received tag
 pub open-in-place-4 :
     (s : Session) (b : List ℕ) → openInPlaceOf s b .number ≡ 4
     → openInPlaceOf s b ≡ refused (tagEnd (decryptEnd s (allBut16 b))) 4 0 (replicate (length b - 16) 0 ++ last16 b)
 unfolding openInPlaceOf
-open-in-place-4 s b e = opened-4 _ _ s b _ _ _ _ (first-other _ _ (mode-other (mode s)) (tail-other (length b))) e
+open-in-place-4 s b e = opened-4 _ _ s b _ _ _ _ (first-other _ _ (keyed-other s) (tail-other (length b))) e
 
 -- two calls of one form answered 4 with output lengths equal leave equal output bytes, whatever their keys
 module _ (s s′ : Session) where

@@ -1,5 +1,6 @@
 -- The claims: a file for each demand, the marked cases, and that a promise decides its result.
 pub mod Crypt
+pub mod FeedLaws
 pub mod Rules
 pub mod Demand1
 pub mod Demand2
@@ -10,6 +11,7 @@ pub mod Ratchet
 pub mod WalkSteps
 pub mod WalkCalls
 pub mod WalkBack
+pub mod Feeding
 pub mod Marked
 pub mod MarkedSessions
 pub mod Decides

@@ -1,4 +1,4 @@
--- The marked cases of sessions, W4 to W12.
+-- The marked cases of sessions, W4 to W12; those of a session that is given are of one with no message begun.
 use mathlib.Core.Path.{_≡_, refl, ap, ap₂, _∙_}
 use mathlib.Core.Bool.{Bool, true, false}
 use mathlib.Core.List.{List, [], _∷_, _++_, append-assoc}
@@ -19,16 +19,16 @@ use Rattle.xoodyak.specs.declared.Rule.{Rule}
 use Rattle.xoodyak.specs.declared.Rule.the-variants.{Crate, Specification}
 use Rattle.xoodyak.specs.declared.Session.{Session}
 use Rattle.xoodyak.specs.Cyclist.{downBytes, up, down, ready, absorbBlocks, absorb, messageBlocks, encEnd, keyCall}
-use Rattle.xoodyak.specs.Numbers.{keyNumber}
+use Rattle.xoodyak.specs.Numbers.{unfinishedNumber, keyNumber}
 use Rattle.xoodyak.specs.Calls.{session, onward, mode, absorbOf, newOf, ratchetOf, encryptEnd, decryptEnd, encryptOf, tagOut, openOf}
 use Rattle.theorems.proofs.Crypt.{one-block, Decides}
-use Rattle.theorems.proofs.Demand1.{keyed-iff, new-answers, encrypt-answers, open-answers}
+use Rattle.theorems.proofs.Demand1.{keyed-iff, finished, new-answers, encrypt-answers, open-answers}
 use Rattle.theorems.proofs.Demand2.{encrypt-is, open-decides}
 use Rattle.theorems.proofs.Ratchet.{permuted, ratchet-end}
 
 -- W4 fresh Hash, absorb empty: bytes 0 and 47 are 01, the rest 0, phase Down
 pub w4 : (rule : Rule) → absorbOf (session rule Hash) [] .session .duplex ≡ record { st = 1 ∷ (replicate 46 0 ++ (1 ∷ [])); mode = Hash; phase = Down }
-unfolding absorbOf absorb blocks absorbBlocks ready down downBytes _⊕_ _⊙_
+unfolding absorbOf unfinishedNumber absorb blocks absorbBlocks ready down downBytes _⊕_ _⊙_
 w4 rule = refl
 
 -- W5 `new`, empty key, nothing else: byte 1 is 01, byte 47 is 02, the rest 0
@@ -102,8 +102,8 @@ encrypt-empty : (s : Session) → s .rule ≡ Crate → encryptEnd s [] ≡ s
 unfolding encryptEnd messageBlocks cuts encEnd
 encrypt-empty s r = ap (λ (rule : Rule). onward s (encEnd (messageBlocks rule []) 0x80 (s .duplex))) r
 
-pub w9 : (s : Session) (o : List ℕ) → mode s ≡ Keyed → s .rule ≡ Crate → (encryptOf s o [] .number ≡ 0) × (encryptOf s o [] .session ≡ s)
-w9 s o k r = rw (encrypt-is s k o [] zero-le) (refl, encrypt-empty s r)
+pub w9 : (s : Session) (o : List ℕ) → s .message .begun ≡ false → mode s ≡ Keyed → s .rule ≡ Crate → (encryptOf s o [] .number ≡ 0) × (encryptOf s o [] .session ≡ s)
+w9 s o i k r = rw (encrypt-is s i k o [] zero-le) (refl, encrypt-empty s r)
 
 -- its twin under the specification's rule: Up(0, 80) and Down(empty, 00)
 encrypt-empty-specification : (s : Session) → s .rule ≡ Specification → encryptEnd s [] ≡ onward s (down (up (s .duplex) 0x80) [] 0)
@@ -111,35 +111,35 @@ unfolding encryptEnd messageBlocks blocks encEnd
 encrypt-empty-specification s r = ap (λ (rule : Rule). onward s (encEnd (messageBlocks rule []) 0x80 (s .duplex))) r
 
 pub w9-specification :
-    (s : Session) (o : List ℕ) → mode s ≡ Keyed → s .rule ≡ Specification
+    (s : Session) (o : List ℕ) → s .message .begun ≡ false → mode s ≡ Keyed → s .rule ≡ Specification
     → (encryptOf s o [] .number ≡ 0) × (encryptOf s o [] .session ≡ onward s (down (up (s .duplex) 0x80) [] 0))
-w9-specification s o k r = rw (encrypt-is s k o [] zero-le) (refl, encrypt-empty-specification s r)
+w9-specification s o i k r = rw (encrypt-is s i k o [] zero-le) (refl, encrypt-empty-specification s r)
 
 -- ---- W10 combined open of 15 bytes: 10
-pub w10 : (s : Session) (o b : List ℕ) → mode s ≡ Keyed → length b ≡ 15 → openOf s o b .number ≡ 10
-w10 s o b k e = open-answers s o b .number .1 .0 .1 ((tt, keyed-iff (mode s) .1 k), omega arith)
+pub w10 : (s : Session) (o b : List ℕ) → s .message .begun ≡ false → mode s ≡ Keyed → length b ≡ 15 → openOf s o b .number ≡ 10
+w10 s o b i k e = open-answers s o b .number .1 .1 .0 .1 (((tt, finished s i), keyed-iff (mode s) .1 k), omega arith)
 
 -- of 16 bytes into an empty output: a tag decision
-pub w10-tag : (s : Session) (b : List ℕ) → mode s ≡ Keyed → length b ≡ 16 → Decides (openOf s [] b .number) (tagOut (decryptEnd s []) ≡ b)
-w10-tag s b k e =
+pub w10-tag : (s : Session) (b : List ℕ) → s .message .begun ≡ false → mode s ≡ Keyed → length b ≡ 16 → Decides (openOf s [] b .number) (tagOut (decryptEnd s []) ≡ b)
+w10-tag s b i k e =
     let z : length b - 16 ≡ 0 = omega arith in
-    let d = open-decides s k [] b (omega arith) (omega arith) in
+    let d = open-decides s i k [] b (omega arith) (omega arith) in
     rw z at d
 
 -- W11 Hash session, encrypt into a short output: 1, not 3
-pub w11 : (s : Session) (o m : List ℕ) → mode s ≡ Hash → length o < length m → encryptOf s o m .number ≡ 1
-w11 s o m h _ = encrypt-answers s o m .number .0 .1 (tt, h)
+pub w11 : (s : Session) (o m : List ℕ) → s .message .begun ≡ false → mode s ≡ Hash → length o < length m → encryptOf s o m .number ≡ 1
+w11 s o m i h _ = encrypt-answers s o m .number .1 .0 .1 ((tt, finished s i), h)
 
 -- W12 ratchet: bytes 0 to 15 are 0, byte 16 is the permuted byte 16 xor 01, phase Down
 pub w12 :
-    (s : Session) → mode s ≡ Keyed
+    (s : Session) → s .message .begun ≡ false → mode s ≡ Keyed
     → (take 16 (ratchetOf s .session .duplex .st) ≡ replicate 16 0)
     × (getD (ratchetOf s .session .duplex .st) 16 0 ≡ getD (permuted s) 16 0 ⊕ 1)
     × (ratchetOf s .session .duplex .phase ≡ Down)
-w12 s k =
+w12 s i k =
     let p = drop 16 (permuted s) in
     let h : 0 < length p = rw (length-drop, xoodoo-length) (lit< tt) in
-    rw (ratchet-end s k) (
+    rw (ratchet-end s i k) (
       refl,
       getD-set-same p 0 (getD p 0 0 ⊕ 1) 0 h ∙ ap (λ (a : ℕ). a ⊕ 1) (getD-drop 16 (permuted s) 0 0),
       refl,

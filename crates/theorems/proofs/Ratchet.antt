@@ -1,14 +1,15 @@
 -- Ratchet: bytes 0 to 15 become zero, and two states end equal exactly where they agreed past them.
 use mathlib.Core.Path.{_≡_, refl, sym, ap, ap₂, _∙_}
+use mathlib.Core.Bool.{false}
 use mathlib.Core.List.{List, [], _∷_, _++_, append-nil}
 use mathlib.Core.Logic.{_↔_}
 use Prim.Native.Nat.{ℕ, zero, suc, _-_, _≤_, min}
 use native.Mathlib.Nat.{not-suc-le-zero, le-of-suc-le-suc}
 use lib.Dec.{lit<, lit≤}
 use lib.ListN.{length, replicate, take, drop}
-use lib.Seq.{length-take-le, set-getD}
+use lib.Seq.{length-take-le}
 use Rattle.laws.specs.Lists.{addFront, addAt}
-use Rattle.laws.proofs.Words.{⊕-self, ⊕-zero}
+use Rattle.laws.proofs.Words.{⊕-self}
 use Rattle.laws.proofs.Lists.{addFront-nil}
 use Rattle.laws.proofs.Adding.{addAt-back}
 use Rattle.laws.proofs.Blocks.{sizes-zero}
@@ -20,9 +21,9 @@ use Rattle.xoodyak.specs.declared.cyclist.Phase.the-variants.{Down}
 use Rattle.xoodyak.specs.declared.cyclist.Duplex.{Duplex}
 use Rattle.xoodyak.specs.declared.Session.{Session}
 use Rattle.xoodyak.specs.Cyclist.{squeezeRate, upBytes, downBytes, up, down, ready, absorbBlocks, absorb, nextsEnd, nextsOut, squeezeMoreEnd, squeezeMoreOut, squeezeEnd, squeezeOut, ratchet}
-use Rattle.xoodyak.specs.Numbers.{modeNumber}
-use Rattle.xoodyak.specs.Calls.{noTag, taken, settle, onward, mode, ratchetOf}
-use Rattle.theorems.proofs.Crypt.{up-length, one-block}
+use Rattle.xoodyak.specs.Numbers.{keyedNumber}
+use Rattle.xoodyak.specs.Calls.{idle, noTag, taken, settle, onward, mode, ratchetOf}
+use Rattle.theorems.proofs.Crypt.{up-length, add-zero-at, one-block, keyed-taken}
 use Rattle.theorems.proofs.Rules.{ratchet-rule}
 
 -- ---- 16 bytes are squeezed by one Up, in both modes
@@ -62,9 +63,6 @@ front-zero zero p h = addFront-nil p
 front-zero (suc n) [] h = absurd (not-suc-le-zero h)
 front-zero (suc n) (a ∷ p) h = ap₂ _∷_ (⊕-self a) (front-zero n p (le-of-suc-le-suc h))
 
-add-zero-at : (s : List ℕ) (i : ℕ) → addAt s i 0 ≡ s
-add-zero-at s i = rw ⊕-zero (set-getD s i 0)
-
 down-16 : (p : List ℕ) → 16 ≤ length p → downBytes Keyed (take 16 p) 0 p ≡ replicate 16 0 ++ addAt (drop 16 p) 0 1
 unfolding downBytes
 down-16 p h =
@@ -77,29 +75,38 @@ permuted s = xoodoo (addAt (s .duplex .st) 47 0x10)
 
 -- what a keyed session that accepts ratchet then is: bytes 0 to 15 are zero
 pub ratchet-end :
-    (s : Session) → mode s ≡ Keyed
+    (s : Session) → s .message .begun ≡ false → mode s ≡ Keyed
     → ratchetOf s .session .duplex ≡ record { st = replicate 16 0 ++ addAt (drop 16 (permuted s)) 0 1; mode = Keyed; phase = Down }
 unfolding ratchetOf down up upBytes
-ratchet-end s keyed =
+ratchet-end s idle keyed =
     let d = s .duplex in
-    ap (λ (m : Mode). settle (modeNumber m) 0 s [] (taken (onward s (ratchet d)) noTag []) .session .duplex) keyed
+    ap (λ (n : ℕ). settle n 0 s [] (taken (onward s (ratchet d)) noTag []) .session .duplex) (keyed-taken s idle keyed)
     ∙ ratchet-is d
     ∙ ap (λ (m : Mode). down (up (record { st = d .st; mode = m; phase = d .phase }) 0x10) (take 16 (upBytes m 0x10 (d .st))) 0) keyed
     ∙ ap (λ (b : List ℕ). record { st = b; mode = Keyed; phase = Down }) (down-16 (permuted s) (rw xoodoo-length (lit≤ tt)))
 
 -- ---- which states it merges
--- two keyed states under one rule end equal exactly when, after 10 (hex) is xored into byte 47 and Xoodoo applied, they agree on bytes 16 to 47
+settle-message : (n k : ℕ) (s : Session) (d : Duplex) → settle n k s [] (taken (onward s d) noTag []) .session .message ≡ s .message
+settle-message zero k s d = refl
+settle-message (suc n) k s d = refl
+
+ratchet-message : (s : Session) → ratchetOf s .session .message ≡ s .message
+unfolding ratchetOf
+ratchet-message s = settle-message (keyedNumber s) 0 s (ratchet (s .duplex))
+
+-- two keyed states under one rule, with no message begun, end equal exactly when, after 10 (hex) is xored into byte 47 and Xoodoo applied, they agree on bytes 16 to 47
 pub ratchet-merges :
-    (s s′ : Session) → mode s ≡ Keyed → mode s′ ≡ Keyed → s .rule ≡ s′ .rule
+    (s s′ : Session) → s .message ≡ idle → s′ .message ≡ idle → mode s ≡ Keyed → mode s′ ≡ Keyed → s .rule ≡ s′ .rule
     → (ratchetOf s .session ≡ ratchetOf s′ .session) ↔ (drop 16 (permuted s) ≡ drop 16 (permuted s′))
-ratchet-merges s s′ k k′ r = (
+ratchet-merges s s′ m m′ k k′ r = (
   λ e. let f : addAt (drop 16 (permuted s)) 0 1 ≡ addAt (drop 16 (permuted s′)) 0 1 =
-      ap (λ (d : Duplex). drop 16 (d .st)) (sym (ratchet-end s k) ∙ ap (λ (x : Session). x .duplex) e ∙ ratchet-end s′ k′) in
+      ap (λ (d : Duplex). drop 16 (d .st)) (sym (ratchet-end s (ap (λ x. x .begun) m) k) ∙ ap (λ (x : Session). x .duplex) e ∙ ratchet-end s′ (ap (λ x. x .begun) m′) k′) in
       sym (addAt-back (drop 16 (permuted s)) 0 1) ∙ ap (λ (q : List ℕ). addAt q 0 1) f ∙ addAt-back (drop 16 (permuted s′)) 0 1,
   λ e. let f : ratchetOf s .session .duplex ≡ ratchetOf s′ .session .duplex =
-      ratchet-end s k
+      ratchet-end s (ap (λ x. x .begun) m) k
       ∙ ap (λ (q : List ℕ). record { st = replicate 16 0 ++ addAt q 0 1; mode = Keyed; phase = Down }) e
-      ∙ sym (ratchet-end s′ k′) in
+      ∙ sym (ratchet-end s′ (ap (λ x. x .begun) m′) k′) in
       let g : ratchetOf s .session .rule ≡ ratchetOf s′ .session .rule = ratchet-rule s ∙ r ∙ sym (ratchet-rule s′) in
-      λ i. record { duplex = f i; rule = g i },
+      let h : ratchetOf s .session .message ≡ ratchetOf s′ .session .message = ratchet-message s ∙ m ∙ sym (ratchet-message s′ ∙ m′) in
+      λ i. record { duplex = f i; rule = g i; message = h i },
 )

@@ -3,4 +3,5 @@ pub mod Turns
 pub mod Message
 pub mod Same
 pub mod Settle
+pub mod Feeding
 pub mod Sealing

@@ -13,7 +13,7 @@ use Rattle.xoodyak.specs.declared.cyclist.Mode.{Mode}
 use Rattle.xoodyak.specs.declared.cyclist.Mode.the-variants.{Hash, Keyed}
 use Rattle.xoodyak.specs.declared.Session.{Session}
 use Rattle.xoodyak.specs.Cyclist.{absorbRate}
-use Rattle.xoodyak.specs.Numbers.{when, first, modeNumber, keyNumber, roomNumber, missing, tailNumber, rateNumber}
+use Rattle.xoodyak.specs.Numbers.{when, first, unfinishedNumber, modeNumber, keyedNumber, keyNumber, roomNumber, missing, tailNumber, rateNumber}
 use Rattle.xoodyak.specs.Calls.{Outcome, refused, settle}
 
 -- ---- a call's test of its number m, which is n; k counts the bytes missing
@@ -131,10 +131,15 @@ unfolding missing
 ten-counts-none true room result = refl
 ten-counts-none false room result = refl
 
-pub before-room : (m : Mode) (size room result n : ℕ) → n ≡ first (modeNumber m) (tailNumber size) → 0 ≡ missing n room result
-unfolding missing tailNumber
-before-room Hash size room result n e = rw e
-before-room Keyed size room result n e = rw e (ten-counts-none (ltb size 16) room result)
+keyed-counts-none : (begun : Bool) (m : Mode) (t : Bool) (room result : ℕ) → 0 ≡ missing (first (first (when begun 7) (modeNumber m)) (when t 10)) room result
+unfolding missing
+keyed-counts-none true m t room result = refl
+keyed-counts-none false Hash t room result = refl
+keyed-counts-none false Keyed t room result = ten-counts-none t room result
+
+pub before-room : (s : Session) (size room result n : ℕ) → n ≡ first (keyedNumber s) (tailNumber size) → 0 ≡ missing n room result
+unfolding keyedNumber unfinishedNumber tailNumber
+before-room s size room result n e = rw e (keyed-counts-none (s .message .begun) (s .duplex .mode) (ltb size 16) room result)
 
 pub absorb-rate-fits : (m : Mode) → (0 < absorbRate m) × (absorbRate m ≤ 44)
 absorb-rate-fits Hash = (lit< tt, lit≤ tt)

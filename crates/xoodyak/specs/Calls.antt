@@ -9,11 +9,13 @@ use Rattle.xoodyak.specs.declared.cyclist.Mode.the-variants.{Hash, Keyed
 use Rattle.xoodyak.specs.declared.cyclist.Duplex.{Duplex}
 use Rattle.xoodyak.specs.declared.tag.Tag.{Tag}
 use Rattle.xoodyak.specs.declared.Rule.{Rule}
+use Rattle.xoodyak.specs.declared.feed.Kind.the-variants.{Seal}
+use Rattle.xoodyak.specs.declared.feed.Message.{Message}
 use Rattle.xoodyak.specs.declared.Session.{Session}
 use Rattle.xoodyak.specs.declared.Answer.{Answer}
 use Rattle.xoodyak.specs.declared.Sealed.{Sealed}
 use Rattle.xoodyak.specs.Cyclist.{fresh, absorbRate, absorb, absorbMore, squeezeEnd, squeezeOut, squeezeMoreEnd, squeezeMoreOut, messageBlocks, encEnd, encOut, decEnd, decOut, ratchet, given, keyCall}
-use Rattle.xoodyak.specs.Numbers.{first, modeNumber, keyNumber, roomNumber, missing, tailNumber, rateNumber}
+use Rattle.xoodyak.specs.Numbers.{first, unfinishedNumber, keyedNumber, keyNumber, roomNumber, missing, tailNumber, rateNumber}
 
 pub record Outcome : Type 0 where
   pub session : Session
@@ -50,34 +52,42 @@ settleRoom before room result s o x =
     let n = first before (roomNumber room result) in
     settle n (missing n room result) s o x
 
+-- no message is begun
+abbrev pub idle : Message
+idle = record { begun = false; kind = Seal; place = 0 }
+
 -- a session made new under a rule, and one whose bytes and phase moved on
 abbrev pub session : Rule → Mode → Session
-session rule m = record { duplex = fresh m; rule = rule }
+session rule m = record { duplex = fresh m; rule = rule; message = idle }
 
 abbrev pub onward : Session → Duplex → Session
-onward s d = record { duplex = d; rule = s .rule }
+onward s d = record { duplex = d; rule = s .rule; message = s .message }
 
 abbrev pub mode : Session → Mode
 mode s = s .duplex .mode
 
--- ---- calls of both modes
+-- ---- calls of both modes; every call on an unfinished message is refused with 7, before any other number
 unfoldable pub absorbOf : Session → List ℕ → Outcome
-absorbOf s x = taken (onward s (absorb (absorbRate (mode s)) 3 (s .duplex) x)) noTag []
+absorbOf s x = settle (unfinishedNumber s) 0 s [] (taken (onward s (absorb (absorbRate (mode s)) 3 (s .duplex) x)) noTag [])
 
 unfoldable pub absorbMoreOf : Session → List ℕ → ℕ → Outcome
-absorbMoreOf s x r = settle (rateNumber (mode s) r) 0 s [] (taken (onward s (absorbMore r (s .duplex) x)) noTag [])
+absorbMoreOf s x r = settle (first (unfinishedNumber s) (rateNumber (mode s) r)) 0 s [] (taken (onward s (absorbMore r (s .duplex) x)) noTag [])
 
 -- squeeze has colour 40, squeeze_key 20
 unfoldable pub squeezeOf : ℕ → Session → List ℕ → Outcome
-squeezeOf cu s o = taken (onward s (squeezeEnd (s .duplex) (length o) cu)) noTag (squeezeOut (s .duplex) (length o) cu)
+squeezeOf cu s o =
+    settle (unfinishedNumber s) 0 s o
+    (taken (onward s (squeezeEnd (s .duplex) (length o) cu)) noTag (squeezeOut (s .duplex) (length o) cu))
 
 unfoldable pub squeezeMoreOf : Session → List ℕ → Outcome
-squeezeMoreOf s o = taken (onward s (squeezeMoreEnd (s .duplex) (length o))) noTag (squeezeMoreOut (s .duplex) (length o))
+squeezeMoreOf s o =
+    settle (unfinishedNumber s) 0 s o
+    (taken (onward s (squeezeMoreEnd (s .duplex) (length o))) noTag (squeezeMoreOut (s .duplex) (length o)))
 
 -- ---- keyed calls
 unfoldable pub keyOf : Session → List ℕ → Bool → List ℕ → Bool → List ℕ → Bool → List ℕ → Outcome
 keyOf s key hasId id hasNonce nonce hasCounter counter =
-    settle (first (modeNumber (mode s)) (keyNumber (length key) (length (given hasId id)) (length (given hasNonce nonce)))) 0 s []
+    settle (first (keyedNumber s) (keyNumber (length key) (length (given hasId id)) (length (given hasNonce nonce)))) 0 s []
     (taken (onward s (keyCall (s .duplex) key hasId (given hasId id) (given hasNonce nonce) hasCounter counter)) noTag [])
 
 -- refused, it hands back a fresh Hash session with that rule
@@ -87,7 +97,7 @@ newOf rule key hasNonce nonce hasId id hasCounter counter =
     (taken (onward (session rule Keyed) (keyCall (fresh Keyed) key hasId (given hasId id) (given hasNonce nonce) hasCounter counter)) noTag [])
 
 unfoldable pub ratchetOf : Session → Outcome
-ratchetOf s = settle (modeNumber (mode s)) 0 s [] (taken (onward s (ratchet (s .duplex))) noTag [])
+ratchetOf s = settle (keyedNumber s) 0 s [] (taken (onward s (ratchet (s .duplex))) noTag [])
 
 -- a message encrypted or decrypted, in the blocks that the session's rule gives it: the first Up has 80
 unfoldable pub encryptEnd : Session → List ℕ → Session
@@ -105,19 +115,19 @@ decryptOut s c = decOut (messageBlocks (s .rule) c) 0x80 (s .duplex)
 -- bytes past the result keep what they held
 unfoldable pub encryptOf : Session → List ℕ → List ℕ → Outcome
 encryptOf s o m =
-    settleRoom (modeNumber (mode s)) (length o) (length m) s o
+    settleRoom (keyedNumber s) (length o) (length m) s o
     (taken (encryptEnd s m) noTag (encryptOut s m ++ drop (length m) o))
 
 unfoldable pub decryptOf : Session → List ℕ → List ℕ → Outcome
 decryptOf s o c =
-    settleRoom (modeNumber (mode s)) (length o) (length c) s o
+    settleRoom (keyedNumber s) (length o) (length c) s o
     (taken (decryptEnd s c) noTag (decryptOut s c ++ drop (length c) o))
 
 unfoldable pub encryptInPlaceOf : Session → List ℕ → Outcome
-encryptInPlaceOf s b = settle (modeNumber (mode s)) 0 s b (taken (encryptEnd s b) noTag (encryptOut s b))
+encryptInPlaceOf s b = settle (keyedNumber s) 0 s b (taken (encryptEnd s b) noTag (encryptOut s b))
 
 unfoldable pub decryptInPlaceOf : Session → List ℕ → Outcome
-decryptInPlaceOf s b = settle (modeNumber (mode s)) 0 s b (taken (decryptEnd s b) noTag (decryptOut s b))
+decryptInPlaceOf s b = settle (keyedNumber s) 0 s b (taken (decryptEnd s b) noTag (decryptOut s b))
 
 -- ---- the tag: 16 bytes squeezed
 unfoldable pub tagEnd : Session → Session
@@ -148,23 +158,23 @@ verifyOf t b = tagNumber (sameBytes (t .bytes) b)
 -- ---- sealing: encrypt, then squeeze the tag
 unfoldable pub sealDetachedOf : Session → List ℕ → List ℕ → Outcome
 sealDetachedOf s o m =
-    settleRoom (modeNumber (mode s)) (length o) (length m) s o
+    settleRoom (keyedNumber s) (length o) (length m) s o
     (taken (tagEnd (encryptEnd s m)) (tagOut (encryptEnd s m)) (encryptOut s m ++ drop (length m) o))
 
 unfoldable pub sealOf : Session → List ℕ → List ℕ → Outcome
 sealOf s o m =
-    settleRoom (modeNumber (mode s)) (length o) (length m + 16) s o
+    settleRoom (keyedNumber s) (length o) (length m + 16) s o
     (taken (tagEnd (encryptEnd s m)) noTag (encryptOut s m ++ (tagOut (encryptEnd s m) ++ drop (length m + 16) o)))
 
 unfoldable pub sealInPlaceDetachedOf : Session → List ℕ → Outcome
 sealInPlaceDetachedOf s b =
-    settle (modeNumber (mode s)) 0 s b (taken (tagEnd (encryptEnd s b)) (tagOut (encryptEnd s b)) (encryptOut s b))
+    settle (keyedNumber s) 0 s b (taken (tagEnd (encryptEnd s b)) (tagOut (encryptEnd s b)) (encryptOut s b))
 
 -- the message is all of b but its last 16 bytes, which become the tag
 unfoldable pub sealInPlaceOf : Session → List ℕ → Outcome
 sealInPlaceOf s b =
     let m = take (length b - 16) b in
-    settle (first (modeNumber (mode s)) (tailNumber (length b))) 0 s b
+    settle (first (keyedNumber s) (tailNumber (length b))) 0 s b
     (taken (tagEnd (encryptEnd s m)) noTag (encryptOut s m ++ tagOut (encryptEnd s m)))
 
 -- ---- opening: decrypt, squeeze the tag and compare; the session stands past the tag either way
@@ -178,24 +188,24 @@ opened s t c good bad = verdict (sameBytes (tagOut (decryptEnd s c)) t) (tagEnd 
 -- the copying forms zero the whole output
 unfoldable pub openDetachedOf : Session → List ℕ → Tag → List ℕ → Outcome
 openDetachedOf s o t c =
-    settleRoom (modeNumber (mode s)) (length o) (length c) s o
+    settleRoom (keyedNumber s) (length o) (length c) s o
     (opened s (t .bytes) c (decryptOut s c ++ drop (length c) o) (replicate (length o) 0))
 
 unfoldable pub openOf : Session → List ℕ → List ℕ → Outcome
 openOf s o b =
     let c = take (length b - 16) b in
-    settleRoom (first (modeNumber (mode s)) (tailNumber (length b))) (length o) (length b - 16) s o
+    settleRoom (first (keyedNumber s) (tailNumber (length b))) (length o) (length b - 16) s o
     (opened s (drop (length b - 16) b) c (decryptOut s c ++ drop (length b - 16) o) (replicate (length o) 0))
 
 -- the detached in-place form zeroes its buffer
 unfoldable pub openInPlaceDetachedOf : Session → List ℕ → Tag → Outcome
 openInPlaceDetachedOf s b t =
-    settle (modeNumber (mode s)) 0 s b (opened s (t .bytes) b (decryptOut s b) (replicate (length b) 0))
+    settle (keyedNumber s) 0 s b (opened s (t .bytes) b (decryptOut s b) (replicate (length b) 0))
 
 -- the combined in-place form zeroes all but the last 16 bytes, which keep the received tag
 unfoldable pub openInPlaceOf : Session → List ℕ → Outcome
 openInPlaceOf s b =
     let c = take (length b - 16) b in
     let t = drop (length b - 16) b in
-    settle (first (modeNumber (mode s)) (tailNumber (length b))) 0 s b
+    settle (first (keyedNumber s) (tailNumber (length b))) 0 s b
     (opened s t c (decryptOut s c ++ t) (replicate (length b - 16) 0 ++ t))

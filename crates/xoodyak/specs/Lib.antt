@@ -2,3 +2,4 @@
 pub mod Cyclist
 pub mod Numbers
 pub mod Calls
+pub mod Feed

@@ -43,7 +43,7 @@ impl Session {
     {
         let m = or_empty(has_bin, bin);
         let n = m.len();
-        let number = first(self.mode_number(), room_number(out.len(), n));
+        let number = first(self.keyed_number(), room_number(out.len(), n));
         let mut tag = [0u8; 16];
         if number != 0 {
             return self.sealed(number, missing(number, out.len(), n), Tag::from_bytes(tag));
@@ -61,7 +61,7 @@ impl Session {
         let m = or_empty(has_bin, bin);
         let n = m.len();
         let e = n + 16;
-        let keyed = self.mode_number();
+        let keyed = self.keyed_number();
         let room = room_number(out.len(), e);
         let number = first(keyed, room);
         if number != 0 {
@@ -76,7 +76,7 @@ impl Session {
         ensures { λ r. ⌜ r ≡ sealedOf (sealInPlaceDetachedOf self (now («in_out» .entry))) ⌝ }
         ensures { λ _. ⌜ now («in_out» .exit) ≡ sealInPlaceDetachedOf self (now («in_out» .entry)) .bytes ⌝ }
     {
-        let number = self.mode_number();
+        let number = self.keyed_number();
         let mut tag = [0u8; 16];
         if number != 0 {
             return self.sealed(number, 0, Tag::from_bytes(tag));
@@ -91,7 +91,7 @@ impl Session {
         ensures { λ _. ⌜ now («in_out» .exit) ≡ sealInPlaceOf self (now («in_out» .entry)) .bytes ⌝ }
     {
         let len = in_out.len();
-        let number = first(self.mode_number(), tail_number(len));
+        let number = first(self.keyed_number(), tail_number(len));
         if number != 0 {
             return self.answer(number);
         }
@@ -112,7 +112,7 @@ impl Session {
     {
         let c = or_empty(has_bin, bin);
         let n = c.len();
-        let number = first(self.mode_number(), room_number(out.len(), n));
+        let number = first(self.keyed_number(), room_number(out.len(), n));
         if number != 0 {
             return self.short_answer(number, missing(number, out.len(), n));
         }
@@ -133,7 +133,7 @@ impl Session {
         ensures { λ _. ⌜ now (out .exit) ≡ openOf self (now (out .entry)) (now (bin .entry)) .bytes ⌝ }
     {
         let len = bin.len();
-        let short = first(self.mode_number(), tail_number(len));
+        let short = first(self.keyed_number(), tail_number(len));
         if short != 0 {
             return self.answer(short);
         }
@@ -158,7 +158,7 @@ impl Session {
         ensures { λ r. ⌜ r ≡ answerOf (openInPlaceDetachedOf self (now («in_out» .entry)) tag) ⌝ }
         ensures { λ _. ⌜ now («in_out» .exit) ≡ openInPlaceDetachedOf self (now («in_out» .entry)) tag .bytes ⌝ }
     {
-        let number = self.mode_number();
+        let number = self.keyed_number();
         if number != 0 {
             return self.answer(number);
         }
@@ -178,7 +178,7 @@ impl Session {
         ensures { λ _. ⌜ now («in_out» .exit) ≡ openInPlaceOf self (now («in_out» .entry)) .bytes ⌝ }
     {
         let len = in_out.len();
-        let number = first(self.mode_number(), tail_number(len));
+        let number = first(self.keyed_number(), tail_number(len));
         if number != 0 {
             return self.answer(number);
         }

@@ -7,6 +7,8 @@ use crate::Rule;
 use crate::Session;
 use crate::cyclist::Duplex;
 use crate::cyclist::Mode;
+use crate::feed::Message;
+use crate::numbers::first;
 
 impl Session {
     pub fn hash(rule: Rule) -> Session
@@ -15,6 +17,7 @@ impl Session {
         Session {
             duplex: Duplex::fresh(Mode::Hash),
             rule: rule,
+            message: Message::idle(),
         }
     }
 
@@ -22,6 +25,10 @@ impl Session {
         ensures { λ r. ⌜ r ≡ answerOf (absorbOf self (now (bin .entry))) ⌝ }
     {
         let d = self.duplex;
+        let number = self.unfinished_number();
+        if number != 0 {
+            return self.answer(number);
+        }
         let rate = d.absorb_rate();
         self.onward(d.absorb_any(bin, rate, 0x03)).answer(0)
     }
@@ -30,7 +37,7 @@ impl Session {
         ensures { λ r. ⌜ r ≡ answerOf (absorbMoreOf self (now (bin .entry)) rate) ⌝ }
     {
         let d = self.duplex;
-        let number = self.rate_number(rate);
+        let number = first(self.unfinished_number(), self.rate_number(rate));
         if number != 0 {
             return self.answer(number);
         }
@@ -42,6 +49,10 @@ impl Session {
         ensures { λ _. ⌜ now (out .exit) ≡ squeezeOf 0x40 self (now (out .entry)) .bytes ⌝ }
     {
         let d = self.duplex;
+        let number = self.unfinished_number();
+        if number != 0 {
+            return self.answer(number);
+        }
         self.onward(d.squeeze_any(out, 0x40)).answer(0)
     }
 
@@ -50,6 +61,10 @@ impl Session {
         ensures { λ _. ⌜ now (out .exit) ≡ squeezeOf 0x20 self (now (out .entry)) .bytes ⌝ }
     {
         let d = self.duplex;
+        let number = self.unfinished_number();
+        if number != 0 {
+            return self.answer(number);
+        }
         self.onward(d.squeeze_any(out, 0x20)).answer(0)
     }
 
@@ -58,6 +73,10 @@ impl Session {
         ensures { λ _. ⌜ now (out .exit) ≡ squeezeMoreOf self (now (out .entry)) .bytes ⌝ }
     {
         let d = self.duplex;
+        let number = self.unfinished_number();
+        if number != 0 {
+            return self.answer(number);
+        }
         self.onward(d.squeeze_more(out)).answer(0)
     }
 }

@@ -218,7 +218,7 @@ impl Session {
         let i = or_empty(has_id, id);
         let m = or_empty(has_nonce, nonce);
         let d = self.duplex;
-        let number = first(self.mode_number(), key_number(key.len(), i.len(), m.len()));
+        let number = first(self.keyed_number(), key_number(key.len(), i.len(), m.len()));
         if number != 0 {
             return self.answer(number);
         }
@@ -230,7 +230,7 @@ impl Session {
         ensures { λ r. ⌜ r ≡ answerOf (ratchetOf self) ⌝ }
     {
         let d = self.duplex;
-        let number = self.mode_number();
+        let number = self.keyed_number();
         if number != 0 {
             return self.answer(number);
         }
@@ -242,7 +242,7 @@ impl Session {
         ensures { λ _. ⌜ now (out .exit) ≡ encryptOf self (now (out .entry)) (now (bin .entry)) .bytes ⌝ }
     {
         let n = bin.len();
-        let number = first(self.mode_number(), room_number(out.len(), n));
+        let number = first(self.keyed_number(), room_number(out.len(), n));
         if number != 0 {
             return self.short_answer(number, missing(number, out.len(), n));
         }
@@ -255,7 +255,7 @@ impl Session {
         ensures { λ _. ⌜ now (out .exit) ≡ decryptOf self (now (out .entry)) (now (bin .entry)) .bytes ⌝ }
     {
         let n = bin.len();
-        let number = first(self.mode_number(), room_number(out.len(), n));
+        let number = first(self.keyed_number(), room_number(out.len(), n));
         if number != 0 {
             return self.short_answer(number, missing(number, out.len(), n));
         }
@@ -267,7 +267,7 @@ impl Session {
         ensures { λ r. ⌜ r ≡ answerOf (encryptInPlaceOf self (now («in_out» .entry))) ⌝ }
         ensures { λ _. ⌜ now («in_out» .exit) ≡ encryptInPlaceOf self (now («in_out» .entry)) .bytes ⌝ }
     {
-        let number = self.mode_number();
+        let number = self.keyed_number();
         if number != 0 {
             return self.answer(number);
         }
@@ -278,7 +278,7 @@ impl Session {
         ensures { λ r. ⌜ r ≡ answerOf (decryptInPlaceOf self (now («in_out» .entry))) ⌝ }
         ensures { λ _. ⌜ now («in_out» .exit) ≡ decryptInPlaceOf self (now («in_out» .entry)) .bytes ⌝ }
     {
-        let number = self.mode_number();
+        let number = self.keyed_number();
         if number != 0 {
             return self.answer(number);
         }

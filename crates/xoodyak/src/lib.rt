@@ -2,6 +2,7 @@
 pub mod aead;
 pub mod bytes;
 pub mod cyclist;
+pub mod feed;
 pub mod hash;
 pub mod keyed;
 pub mod numbers;
@@ -10,6 +11,7 @@ pub mod tag;
 ghost use mathlib.Core.Path.{_≡_};
 ghost use Rattle.xoodyak.specs.Calls.{onward};
 use cyclist::Duplex;
+use feed::Message;
 use tag::Tag;
 
 // Whose rule an empty message follows: the crate's, where it does nothing, or the specification's, where it runs one
@@ -22,6 +24,7 @@ pub enum Rule {
 pub struct Session {
     pub duplex: Duplex,
     pub rule: Rule,
+    pub message: Message,
 }
 
 // What a call hands back: the session, 0 or the number of the refusal, and with 3 how many bytes the output lacks.
@@ -40,14 +43,16 @@ pub struct Sealed {
 }
 
 impl Session {
-    // The session with its bytes and phase moved on; its rule stays.
+    // The session with its bytes and phase moved on; the rest stays.
     pub(crate) fn onward(self, duplex: Duplex) -> Session
         ensures { λ r. ⌜ r ≡ onward self duplex ⌝ }
     {
         let rule = self.rule;
+        let message = self.message;
         Session {
             duplex: duplex,
             rule: rule,
+            message: message,
         }
     }
 

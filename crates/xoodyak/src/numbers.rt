@@ -1,9 +1,10 @@
 // The numbers of refusals; 0 is success.
 ghost use mathlib.Core.Path.{_≡_};
-ghost use Rattle.xoodyak.specs.Numbers.{first, modeNumber, keyNumber, roomNumber, missing, tailNumber, rateNumber};
+ghost use Rattle.xoodyak.specs.Numbers.{first, unfinishedNumber, kindNumber, modeNumber, keyedNumber, keyNumber, roomNumber, missing, tailNumber, rateNumber};
 ghost use Rattle.xoodyak.specs.Calls.{mode};
 use crate::Session;
 use crate::cyclist::Mode;
+use crate::feed::Kind;
 
 pub(crate) fn first(a: u8, b: u8) -> u8
     ensures { λ r. ⌜ r ≡ first a b ⌝ }
@@ -47,6 +48,34 @@ pub(crate) fn missing(number: u8, room: usize, result: usize) -> usize
 }
 
 impl Session {
+    // 7 on an unfinished message.
+    pub(crate) fn unfinished_number(self) -> u8
+        ensures { λ r. ⌜ r ≡ unfinishedNumber self ⌝ }
+    {
+        if self.message.begun { 7 } else { 0 }
+    }
+
+    // 7 unless a message of this kind is begun.
+    pub(crate) fn kind_number(self, kind: Kind) -> u8
+        ensures { λ r. ⌜ r ≡ kindNumber kind self ⌝ }
+    {
+        if self.message.begun {
+            let m = self.message;
+            let begun = m.kind;
+            return match kind {
+                Kind::Seal => match begun {
+                    Kind::Seal => 0,
+                    Kind::Open => 7,
+                },
+                Kind::Open => match begun {
+                    Kind::Seal => 7,
+                    Kind::Open => 0,
+                },
+            };
+        }
+        7
+    }
+
     pub(crate) fn mode_number(self) -> u8
         ensures { λ r. ⌜ r ≡ modeNumber (mode self) ⌝ }
     {
@@ -56,6 +85,15 @@ impl Session {
             Mode::Hash => 1,
             Mode::Keyed => 0,
         }
+    }
+
+    // What every keyed-only call asks first.
+    pub(crate) fn keyed_number(self) -> u8
+        ensures { λ r. ⌜ r ≡ keyedNumber self ⌝ }
+    {
+        let unfinished = self.unfinished_number();
+        let mode = self.mode_number();
+        first(unfinished, mode)
     }
 
     pub(crate) fn rate_number(self, rate: usize) -> u8

@@ -3,16 +3,16 @@ use mathlib.Core.Path.{_≡_, _∙_}
 use denote.Ref.{now}
 use lib.ListN.{length}
 use Rattle.xoodyak.specs.Cyclist.{given}
-use Rattle.xoodyak.specs.Numbers.{first, modeNumber, keyNumber}
-use Rattle.xoodyak.specs.Calls.{mode, answerOf, keyOf}
+use Rattle.xoodyak.specs.Numbers.{first, keyedNumber, keyNumber}
+use Rattle.xoodyak.specs.Calls.{answerOf, keyOf}
 use Rattle.xoodyak.proofs.Settle.{answer-taken, answer-refused, second-zero, key-fits}
 use borrow.Author.Needs.{needs}
 use Rattle.xoodyak.proofs.Session.absorb_key_and_nonce.Statement.{statement}
 use Rattle.xoodyak.proofs.Session.absorb_key_and_nonce.Tie as tie
 
 -- the number, as the definition has it
-number : (c : tie.After-first) → let a = c .before .before .before .before .before .before .before .before .before .before .args in c .first .result ≡ first (modeNumber (mode (a .self))) (keyNumber (length (now (a .key))) (length (given (a .has-id) (now (a .id)))) (length (given (a .has-nonce) (now (a .nonce)))))
-number c = c .first .ensures ∙ rw (c .before .before .mode-number .ensures, c .before .key-number .ensures, c .before .before .before .before .before .or-empty .ensures, c .before .before .before .before .or-empty2 .ensures)
+number : (c : tie.After-first) → let a = c .before .before .before .before .before .before .before .before .before .before .args in c .first .result ≡ first (keyedNumber (a .self)) (keyNumber (length (now (a .key))) (length (given (a .has-id) (now (a .id)))) (length (given (a .has-nonce) (now (a .nonce)))))
+number c = c .first .ensures ∙ rw (c .before .before .keyed-number .ensures, c .before .key-number .ensures, c .before .before .before .before .before .or-empty .ensures, c .before .before .before .before .or-empty2 .ensures)
 
 returns : tie.Need-returns
 unfolding keyOf
@@ -21,7 +21,7 @@ returns c = answer-refused _ _ (number (c .before .before)) _ _ _ _ answerOf _ (
 key-call-requires : tie.Need-key-call-requires
 key-call-requires c κs =
     let k = c .before .before .key-number in
-    key-fits _ _ _ (second-zero _ (c .before .before .before .mode-number .result) (k .result) _ (c .before .first .ensures) (k .ensures) (c .if1 .left))
+    key-fits _ _ _ (second-zero _ (c .before .before .before .keyed-number .result) (k .result) _ (c .before .first .ensures) (k .ensures) (c .if1 .left))
 
 returns-2 : tie.Need-returns-2
 unfolding keyOf

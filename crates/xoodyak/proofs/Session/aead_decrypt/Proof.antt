@@ -4,13 +4,13 @@ use mathlib.Core.List.{List, _++_}
 use Prim.Native.Nat.{ℕ, _-_, _≤_}
 use native.Mathlib.Omega.{arith}
 use denote.Ref.{now}
-use lib.ListN.{length, replicate, drop, take, length-drop, length-take}
+use lib.ListN.{length, replicate, drop, take, length-drop, length-replicate, length-take}
 use lib.Seq.{length-take-le, take-all}
 use native.Mathlib.Nat.{le-refl}
 use borrow.Author.Needs.{needs}
 use Rattle.xoodyak.specs.declared.Session.{Session}
-use Rattle.xoodyak.specs.Numbers.{first, modeNumber, roomNumber, tailNumber}
-use Rattle.xoodyak.specs.Calls.{Outcome, answerOf, mode, verdict, openOf}
+use Rattle.xoodyak.specs.Numbers.{first, keyedNumber, roomNumber, tailNumber}
+use Rattle.xoodyak.specs.Calls.{Outcome, answerOf, verdict, openOf}
 use Rattle.xoodyak.proofs.Settle.{room-fits, before-room}
 use Rattle.xoodyak.proofs.Sealing.{long, earlier, later, open-refused, relaid, zeroed-whole, open-copy, same, differs}
 use Rattle.xoodyak.proofs.Session.aead_decrypt.Statement.{statement}
@@ -30,14 +30,14 @@ abbrev N : tie.After-first → ℕ
 N d = length (I d) - 16
 
 -- the first number, and that the input holds a tag where it is 0
-short : (d : tie.After-first) → d .first .result ≡ first (modeNumber (mode (S d))) (tailNumber (length (I d)))
-short d = d .first .ensures ∙ ap₂ first (d .before .before .mode-number .ensures) (d .before .tail-number .ensures)
+short : (d : tie.After-first) → d .first .result ≡ first (keyedNumber (S d)) (tailNumber (length (I d)))
+short d = d .first .ensures ∙ ap₂ first (d .before .before .keyed-number .ensures) (d .before .tail-number .ensures)
 
 tagged : (d : tie.Else1) → 16 ≤ length (I (d .before))
 tagged d = long (S (d .before)) _ (d .if1 .left) _ (short (d .before))
 
 -- the second number, and that the result has room where it is 0
-number : (e : tie.After-room-number) → e .room-number .result ≡ first (first (modeNumber (mode (S (e .before .before)))) (tailNumber (length (I (e .before .before))))) (roomNumber (length (O (e .before .before))) (N (e .before .before)))
+number : (e : tie.After-room-number) → e .room-number .result ≡ first (first (keyedNumber (S (e .before .before))) (tailNumber (length (I (e .before .before))))) (roomNumber (length (O (e .before .before))) (N (e .before .before)))
 number e = let d = e .before .before in
     later (d .first .result) _ _ (short d) _ (e .before .if1 .left) (e .room-number .ensures)
 
@@ -46,7 +46,7 @@ room d = room-fits _ _ (sym (d .before .room-number .ensures) ∙ d .if2 .left)
 
 returns : tie.Need-returns
 returns c = let d = c .before .before in
-    let e = open-refused (S d) (O d) (I d) _ 0 (earlier (d .first .result) _ _ (short d) (c .before .if1 .taken)) (before-room (mode (S d)) (length (I d)) _ _ _ (short d)) (c .before .if1 .taken) in
+    let e = open-refused (S d) (O d) (I d) _ 0 (earlier (d .first .result) _ _ (short d) (c .before .if1 .taken)) (before-room (S d) (length (I d)) _ _ _ (short d)) (c .before .if1 .taken) in
     (c .answer .ensures ∙ ap answerOf e, ap (λ (x : Outcome). x .bytes) e)
 
 sub-n : tie.Need-sub-n
@@ -113,6 +113,14 @@ slice-relend-prefix-clear c = let l = whole (c .before) in search needs
 slice-aggregate-clear : tie.Need-slice-aggregate-clear
 slice-aggregate-clear c = let l = whole (c .before .before) in sym (length-take-le _ (left (c .before .before)) (omega arith))
 
+same-length : tie.Need-same-length
+same-length c = whole (c .before .before)
+
+same-length-2 : tie.Need-same-length-2
+same-length-2 c = let g = c .before .before .before .before .before .before in
+    let k = c .before .before .before .clear in
+    ap length (zeroed-whole _ (left g) (k .last .0) (whole g) (k .ensures)) ∙ simp length-replicate refl
+
 returns-4 : tie.Need-returns-4
 returns-4 c = let g = c .before .before .before .before .before .before in
     let e = differs _ _ _ _ _ (c .before .before .before .before .before .if3 .left) (outcome g) in
@@ -146,11 +154,11 @@ aead-decrypt-spec =
     (λ c. search needs)
     same-bytes-requires
     (λ c κs. search needs)
-    (λ c. search needs)
+    same-length
     returns-3
     slice-relend-prefix-clear
     slice-aggregate-clear
     (λ c κs. search needs)
     (λ c κs. search needs)
-    (λ c. search needs)
+    same-length-2
     returns-4)

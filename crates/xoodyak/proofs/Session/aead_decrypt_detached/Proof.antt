@@ -9,8 +9,8 @@ use lib.Seq.{length-take-le}
 use borrow.Author.Needs.{needs}
 use Rattle.xoodyak.specs.declared.Session.{Session}
 use Rattle.xoodyak.specs.Cyclist.{given}
-use Rattle.xoodyak.specs.Numbers.{first, modeNumber, roomNumber}
-use Rattle.xoodyak.specs.Calls.{Outcome, answerOf, mode, verdict, openDetachedOf}
+use Rattle.xoodyak.specs.Numbers.{first, keyedNumber, roomNumber}
+use Rattle.xoodyak.specs.Calls.{Outcome, answerOf, verdict, openDetachedOf}
 use Rattle.xoodyak.proofs.Settle.{room-refused}
 use Rattle.xoodyak.proofs.Sealing.{fits, relaid, open-detached, same, differs}
 use Rattle.xoodyak.proofs.Session.aead_decrypt_detached.Statement.{statement}
@@ -27,8 +27,8 @@ abbrev M : tie.After-first → List ℕ
 M d = now (d .before .before .before .or-empty .result)
 
 -- the call's number, and that the result has room where it is 0
-number : (d : tie.After-first) → d .first .result ≡ first (modeNumber (mode (S d))) (roomNumber (length (O d)) (length (M d)))
-number d = d .first .ensures ∙ ap₂ first (d .before .before .mode-number .ensures) (d .before .room-number .ensures)
+number : (d : tie.After-first) → d .first .result ≡ first (keyedNumber (S d)) (roomNumber (length (O d)) (length (M d)))
+number d = d .first .ensures ∙ ap₂ first (d .before .before .keyed-number .ensures) (d .before .room-number .ensures)
 
 room : (d : tie.Else1) → length (M (d .before)) ≤ length (O (d .before))
 room d = fits (S (d .before)) _ (d .if1 .left) _ _ (number (d .before))
@@ -86,16 +86,25 @@ outcome g = let d = asked g in
     open-detached (S d) (f .result) (t .result) (take (length (M d)) (w .last .0)) (f .last .1 .0) (t .last .1 .0) (tag .bytes) (g .same-bytes .result) (f .ensures .0) (f .ensures .1) (t .ensures .0) (t .ensures .1) (g .same-bytes .ensures) _ (copied g .before .before .if1 .left) (O d) (M d) (w .last .0) tag (number d) (w .ensures) refl refl
     ∙ ap (openDetachedOf (S d) (O d) tag) (d .before .before .before .or-empty .ensures)
 
+-- the output keeps its length
+kept : (g : tie.After-same-bytes) → length (left g) ≡ length (O (asked g))
+kept g = relaid (length (M (asked g))) (decrypted g .decrypt-message .last .1 .0) (copied g .copy-into .last .0) (O (asked g)) (room (copied g .before .before)) (decrypted g .decrypt-message .kept .1 .0) (copied g .copy-into .kept .0)
+
+same-length : tie.Need-same-length
+same-length c = kept (c .before .before)
+
 returns-2 : tie.Need-returns-2
 returns-2 c = let e = same _ _ _ _ _ (c .before .if2 .taken) (outcome (c .before .before)) in
     (c .answer .ensures ∙ ap answerOf e, ap (λ (x : Outcome). x .bytes) e)
+
+same-length-2 : tie.Need-same-length-2
+same-length-2 c = c .before .before .before .clear .kept .0 ∙ kept (c .before .before .before .before .before .before)
 
 returns-3 : tie.Need-returns-3
 returns-3 c = let g = c .before .before .before .before .before .before in
     let e = differs _ _ _ _ _ (c .before .before .before .before .before .if2 .left) (outcome g) in
     let k = c .before .before .before .clear in
-    let n = relaid (length (M (asked g))) (decrypted g .decrypt-message .last .1 .0) (copied g .copy-into .last .0) (O (asked g)) (room (copied g .before .before)) (decrypted g .decrypt-message .kept .1 .0) (copied g .copy-into .kept .0) in
-    (c .answer2 .ensures ∙ ap answerOf e, k .ensures ∙ ap (λ (i : ℕ). replicate i 0) n ∙ ap (λ (x : Outcome). x .bytes) e)
+    (c .answer2 .ensures ∙ ap answerOf e, k .ensures ∙ ap (λ (i : ℕ). replicate i 0) (kept g) ∙ ap (λ (x : Outcome). x .bytes) e)
 
 pub aead-decrypt-detached-spec : {M : Type 1} → statement M
 aead-decrypt-detached-spec =
@@ -118,9 +127,9 @@ aead-decrypt-detached-spec =
     slice-aggregate-same-bytes-2
     same-bytes-requires
     (λ c κs. search needs)
-    (λ c. search needs)
+    same-length
     returns-2
     (λ c κs. search needs)
     (λ c κs. search needs)
-    (λ c. search needs)
+    same-length-2
     returns-3)

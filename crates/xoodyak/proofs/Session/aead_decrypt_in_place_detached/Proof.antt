@@ -18,7 +18,7 @@ returns : tie.Need-returns
 unfolding openInPlaceDetachedOf
 returns c = let d = c .before .before in
     let a = d .before .before .args in
-    call-refused _ _ (d .mode-number .ensures) _ (a .self) (now (a .in-out)) _ answerOf _ (c .before .if1 .taken) (c .answer .ensures)
+    call-refused _ _ (d .keyed-number .ensures) _ (a .self) (now (a .in-out)) _ answerOf _ (c .before .if1 .taken) (c .answer .ensures)
 
 slice-aggregate-same-bytes-2 : tie.Need-slice-aggregate-same-bytes-2
 slice-aggregate-same-bytes-2 c = sym (tag-size (c .before .before .before .before .before .before .before .before .before .before .before .before .before))
@@ -40,7 +40,7 @@ outcome : (g : tie.After-same-bytes) → verdict (g .same-bytes .result) (squeez
 outcome g = let a = start g .args in
     let t = squeezed g .squeeze-tag in
     let f = decrypted g .decrypt-message in
-    open-in-place-detached (a .self) (f .result) (t .result) (now (a .in-out)) (f .last .1 .0) (t .last .1 .0) (a .tag .bytes) (g .same-bytes .result) (f .ensures .0) (f .ensures .1) (t .ensures .0) (t .ensures .1) (g .same-bytes .ensures) _ (decrypted g .before .before .if1 .left) (a .tag) (decrypted g .before .before .before .mode-number .ensures) refl
+    open-in-place-detached (a .self) (f .result) (t .result) (now (a .in-out)) (f .last .1 .0) (t .last .1 .0) (a .tag .bytes) (g .same-bytes .result) (f .ensures .0) (f .ensures .1) (t .ensures .0) (t .ensures .1) (g .same-bytes .ensures) _ (decrypted g .before .before .if1 .left) (a .tag) (decrypted g .before .before .before .keyed-number .ensures) refl
 
 returns-2 : tie.Need-returns-2
 returns-2 c = let e = same _ _ _ _ _ (c .before .if2 .taken) (outcome (c .before .before)) in

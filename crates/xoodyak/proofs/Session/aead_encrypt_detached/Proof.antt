@@ -8,8 +8,8 @@ use lib.ListN.{length, take}
 use lib.Seq.{length-take-le}
 use borrow.Author.Needs.{needs}
 use Rattle.xoodyak.specs.declared.Session.{Session}
-use Rattle.xoodyak.specs.Numbers.{first, modeNumber, roomNumber}
-use Rattle.xoodyak.specs.Calls.{Outcome, sealedOf, mode, sealDetachedOf}
+use Rattle.xoodyak.specs.Numbers.{first, keyedNumber, roomNumber}
+use Rattle.xoodyak.specs.Calls.{Outcome, sealedOf, sealDetachedOf}
 use Rattle.xoodyak.proofs.Settle.{room-refused}
 use Rattle.xoodyak.proofs.Sealing.{fits, seal-detached}
 use Rattle.xoodyak.proofs.Session.aead_encrypt_detached.Statement.{statement}
@@ -26,8 +26,8 @@ abbrev M : tie.After-first → List ℕ
 M d = now (d .before .before .before .or-empty .result)
 
 -- the call's number, and that the result has room where it is 0
-number : (d : tie.After-first) → d .first .result ≡ first (modeNumber (mode (S d))) (roomNumber (length (O d)) (length (M d)))
-number d = d .first .ensures ∙ ap₂ first (d .before .before .mode-number .ensures) (d .before .room-number .ensures)
+number : (d : tie.After-first) → d .first .result ≡ first (keyedNumber (S d)) (roomNumber (length (O d)) (length (M d)))
+number d = d .first .ensures ∙ ap₂ first (d .before .before .keyed-number .ensures) (d .before .room-number .ensures)
 
 room : (d : tie.Else1) → length (M (d .before)) ≤ length (O (d .before))
 room d = fits (S (d .before)) _ (d .if1 .left) _ _ (number (d .before))

@@ -12,7 +12,7 @@ returns : tie.Need-returns
 unfolding sealInPlaceDetachedOf
 returns c = let d = c .before .before .before in
     let a = d .before .before .args in
-    call-refused _ _ (d .mode-number .ensures) _ (a .self) (now (a .in-out)) _ sealedOf _ (c .before .before .if1 .taken) (c .sealed .ensures ∙ rw (c .before .from-bytes .ensures))
+    call-refused _ _ (d .keyed-number .ensures) _ (a .self) (now (a .in-out)) _ sealedOf _ (c .before .before .if1 .taken) (c .sealed .ensures ∙ rw (c .before .from-bytes .ensures))
 
 returns-2 : tie.Need-returns-2
 returns-2 c = let p = c .before .before .before in
@@ -21,7 +21,7 @@ returns-2 c = let p = c .before .before .before in
     let a = d .before .before .args in
     let t = p .squeeze-tag in
     let f = q .encrypt-message in
-    let e = seal-in-place-detached (a .self) (f .result) (t .result) (now (a .in-out)) (f .last .1 .0) (t .last .1 .0) (f .ensures .0) (f .ensures .1) (t .ensures .0) (t .ensures .1) _ (q .before .before .if1 .left) (d .mode-number .ensures) in
+    let e = seal-in-place-detached (a .self) (f .result) (t .result) (now (a .in-out)) (f .last .1 .0) (t .last .1 .0) (f .ensures .0) (f .ensures .1) (t .ensures .0) (t .ensures .1) _ (q .before .before .if1 .left) (d .keyed-number .ensures) in
     (c .sealed2 .ensures ∙ rw (c .before .from-bytes2 .ensures) (ap sealedOf e), ap (λ (x : Outcome). x .bytes) e)
 
 pub aead-encrypt-in-place-detached-spec : {M : Type 1} → statement M

@@ -5,22 +5,22 @@ use native.Mathlib.Omega.{arith}
 use denote.Ref.{now}
 use lib.ListN.{length}
 use lib.Seq.{length-take-le}
-use Rattle.xoodyak.specs.Numbers.{first, modeNumber, roomNumber}
-use Rattle.xoodyak.specs.Calls.{Outcome, mode, answerOf, decryptOf}
+use Rattle.xoodyak.specs.Numbers.{first, keyedNumber, roomNumber}
+use Rattle.xoodyak.specs.Calls.{Outcome, answerOf, decryptOf}
 use Rattle.xoodyak.proofs.Settle.{call-taken, room-refused, second-zero, room-fits, copied-front, copied-rest}
 use borrow.Author.Needs.{needs}
 use Rattle.xoodyak.proofs.Session.decrypt.Statement.{statement}
 use Rattle.xoodyak.proofs.Session.decrypt.Tie as tie
 
 -- the number, as the definition has it
-number : (c : tie.After-first) → let a = c .before .before .before .before .before .args in c .first .result ≡ first (modeNumber (mode (a .self))) (roomNumber (length (now (a .out))) (length (now (a .bin))))
-number c = c .first .ensures ∙ rw (c .before .before .mode-number .ensures, c .before .room-number .ensures)
+number : (c : tie.After-first) → let a = c .before .before .before .before .before .args in c .first .result ≡ first (keyedNumber (a .self)) (roomNumber (length (now (a .out))) (length (now (a .bin))))
+number c = c .first .ensures ∙ rw (c .before .before .keyed-number .ensures, c .before .room-number .ensures)
 
 -- where it is 0 the output is long enough
 room : (c : tie.Else1) → let a = c .before .before .before .before .before .before .args in length (now (a .bin)) ≤ length (now (a .out))
 room c =
     let r = c .before .before .room-number in
-    room-fits _ _ (second-zero _ (c .before .before .before .mode-number .result) (r .result) _ (c .before .first .ensures) (r .ensures) (c .if1 .left))
+    room-fits _ _ (second-zero _ (c .before .before .before .keyed-number .result) (r .result) _ (c .before .first .ensures) (r .ensures) (c .if1 .left))
 
 returns : tie.Need-returns
 unfolding decryptOf

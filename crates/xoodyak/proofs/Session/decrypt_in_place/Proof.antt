@@ -7,12 +7,12 @@ use Rattle.xoodyak.proofs.Session.decrypt_in_place.Tie as tie
 
 returns : tie.Need-returns
 unfolding decryptInPlaceOf
-returns c = call-refused _ _ (c .before .before .mode-number .ensures) _ _ _ _ answerOf _ (c .before .if1 .taken) (c .answer .ensures)
+returns c = call-refused _ _ (c .before .before .keyed-number .ensures) _ _ _ _ answerOf _ (c .before .if1 .taken) (c .answer .ensures)
 
 returns-2 : tie.Need-returns-2
 unfolding decryptInPlaceOf
 returns-2 c = let f = c .before .before .before .decrypt-message in
-    call-taken _ _ (c .before .before .before .before .before .before .mode-number .ensures) _ _ _ _ answerOf _ _ (c .before .before .before .before .before .if1 .left)
+    call-taken _ _ (c .before .before .before .before .before .before .keyed-number .ensures) _ _ _ _ answerOf _ _ (c .before .before .before .before .before .if1 .left)
     (rw (c .answer2 .ensures, f .ensures .0)) (f .ensures .1)
 
 pub decrypt-in-place-spec : {M : Type 1} → statement M

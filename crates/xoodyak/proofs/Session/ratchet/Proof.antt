@@ -7,12 +7,12 @@ use Rattle.xoodyak.proofs.Session.ratchet.Tie as tie
 
 returns : tie.Need-returns
 unfolding ratchetOf
-returns c = answer-refused _ _ (c .before .before .mode-number .ensures) _ _ _ _ answerOf _ (c .before .if1 .taken) (c .answer .ensures)
+returns c = answer-refused _ _ (c .before .before .keyed-number .ensures) _ _ _ _ answerOf _ (c .before .if1 .taken) (c .answer .ensures)
 
 returns-2 : tie.Need-returns-2
 unfolding ratchetOf
 returns-2 c =
-    answer-taken _ _ (c .before .before .before .before .mode-number .ensures) _ _ _ _ answerOf _ (c .before .before .before .if1 .left)
+    answer-taken _ _ (c .before .before .before .before .keyed-number .ensures) _ _ _ _ answerOf _ (c .before .before .before .if1 .left)
     (rw (c .answer2 .ensures, c .before .onward .ensures, c .before .before .ratchet .ensures))
 
 pub ratchet-spec : {M : Type 1} → statement M
