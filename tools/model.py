@@ -451,12 +451,21 @@ def short_output(result, n):
     return "%d:%d" % (SHORT_OUTPUT, result - n) if n < result else 0
 
 
+# Lines that leave the last session call's share of permutations as it was; those of Xoodoo do too.
+UNCOUNTED = ("hash", "set", "state", "rule", "verify", "back", "spent")
+
+
+def is_counted(name):
+    return name not in UNCOUNTED and not name.startswith("x_")
+
+
 class Runner:
     """Holds a session, the rule of those to be made, and a Xoodoo state; `answer` takes a line's bytes and gives its answer, None for none."""
 
     def __init__(self):
         self.rule = "crate"
         self.session = Session(self.rule)
+        self.spent = 0
         self.xoodoo = 0
         self.forms = {
             "rule": (None, self.set_or_show_rule),
@@ -485,6 +494,7 @@ class Runner:
             "feed": ([read_kind, read_length, read_bytes, read_number], self.feed),
             "finish": (None, self.finish),
             "verify": ([read_tag, read_tag], lambda one, other: 0 if one == other else TAG_MISMATCH),
+            "spent": ([], lambda: self.spent),
             "state": ([], lambda: (self.session.mode, self.session.phase, first_bytes(self.session.state, 48))),
             "set": ([read_mode, read_phase, read_state], self.set),
             "back": (None, lambda *arguments: self.session.back(*arguments)),
@@ -522,7 +532,10 @@ class Runner:
             arguments = read_words(readers, words)
         except ValueError:
             return "bad"
+        session, before = self.session, self.session.ups
         answer = call(*arguments)
+        if is_counted(name):
+            self.spent = self.session.ups - (before if self.session is session else 0)
         return " ".join(map(show, answer)) if isinstance(answer, tuple) else show(answer)
 
     def set_or_show_rule(self, rule=None):

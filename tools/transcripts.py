@@ -14,7 +14,7 @@ import subprocess
 import sys
 
 sys.dont_write_bytecode = True  # so that importing the model leaves nothing in the tree
-from model import ABSORB_RATE, Runner, SQUEEZE_RATE  # noqa: E402
+from model import ABSORB_RATE, Runner, SQUEEZE_RATE, is_counted  # noqa: E402
 
 ROOT = os.path.join(os.path.dirname(os.path.abspath(__file__)), "..")
 ORACLE = os.environ.get("ORACLE", os.path.join(ROOT, "target/oracle/oracle"))
@@ -420,8 +420,11 @@ class RandomScript(Script):
                 self.ask(self.random.choice([b"", b"#", b"# a note", b"#state"]))
             else:
                 self.session_line()
+            if self.random.random() < 0.3:
+                self.ask("spent")
         if self.kinds == "all" and self.random.random() < 0.3:
             self.unfinished()
+            self.ask("spent")
         self.ask("state")
 
     def make(self, lines):
@@ -480,9 +483,12 @@ class StoredScript(Script):
         super().__init__(20261115)
         self.oracle, self.model = Oracle(), Runner()
         self.by_original = self.by_model = 0
+        self.counted_together = True
 
     def together(self, line):
         """Whether the oracle stands where the model stands, as far as this line reads the state."""
+        if line == b"spent":
+            return self.counted_together
         if line.startswith(b"x_"):
             return self.oracle.answer(b"x_state") == self.model.answer(b"x_state")
         return self.oracle.answer(b"state") == self.model.answer(b"state")
@@ -495,7 +501,10 @@ class StoredScript(Script):
         name = line.split(b" ")[0]
         makes_state = name in (b"hash", b"new", b"x_set") and original != "bad"
         reads_none = makes_state or name == b"verify" or original == "bad"
-        if original == UNSUPPORTED or not (together or reads_none):
+        by_model = original == UNSUPPORTED or not (together or reads_none)
+        if is_counted(name.decode("latin-1")) and answer != "bad":
+            self.counted_together = not by_model
+        if by_model:
             self.by_model += 1
             return answer
         if answer != original:
@@ -1391,6 +1400,108 @@ class StoredScript(Script):
         self.begin("hash")
         self.random = after
 
+    # What each call spends.
+
+    def spending(self, mode):
+        """Calls of every kind that the mode takes, at lengths about the rates; what is opened is no sealed message: 4 spends as much."""
+        rate, squeeze_rate = ABSORB_RATE[mode], SQUEEZE_RATE[mode]
+        calls = [("absorb", self.data(n)) for n in [0, 1, rate, rate + 1, 2 * rate + 1]]
+        calls += [("absorb_more", self.data(n), r) for n, r in [(0, rate), (rate, rate), (rate + 1, rate), (5, 1), (5, 2)]]
+        calls += [(name, n) for name in ["squeeze", "squeeze_key", "squeeze_more"]
+                  for n in [0, squeeze_rate, squeeze_rate + 1]]
+        if mode == "keyed":
+            calls += [("key", "00", *words) for words in [("-", "-", "-"), ("-", "01", "."), (".", "-", "-"), ("01", "02", "030405")]]
+            calls += [("ratchet",)] + self.message_calls([0, 25])
+        return calls
+
+    def message_calls(self, lengths):
+        calls = []
+        for n in lengths:
+            data = self.bytes(n)
+            for name in ["encrypt", "decrypt"]:
+                calls += [(name, n, word(data)), (name + "_in_place", word(data))]
+            for form in FORMS:
+                calls += [seal_line(form, data), open_line(form, data, bytes(16))]
+        return calls
+
+    def shares(self):
+        after, self.random = self.random, random.Random("shares")  # apart, so that the lines after these stay as they were
+        for mode in ["hash", "keyed"]:
+            self.note("the permutations of each call, %s, from phase Up and from phase Down" % mode)
+            self.begin(mode)
+            for words in self.spending(mode):
+                for prepare in [("squeeze", 0), ("absorb", ".")]:
+                    self.ask(*prepare)
+                    self.ask(*words)
+                    self.ask("spent")
+        self.note("under the specification's rule an empty message spends one more")
+        self.expect("0", "rule", "spec")
+        for prepare, n in [(("squeeze", 0), 0), (("absorb", "."), 0), (("absorb", "."), 24)]:
+            self.begin("keyed")
+            self.ask(*prepare)
+            for words in self.message_calls([n]):
+                self.ask(*words)
+                self.expect(2 if words[0].startswith("aead") else 1, "spent")
+        for words, share in [(("absorb", self.data(45)), 1), (("squeeze", 25), 2), (("key", "00", ".", ".", "."), 2), (("ratchet",), 1)]:
+            self.ask(*words)
+            self.expect(share, "spent")
+        self.expect("0", "rule", "crate")
+        self.note("new: none for the key, one for a nonce beside a key id, one for each byte of a counter")
+        for words, share in [(("-", "-", "-"), 0), (("01", "-", "-"), 0), (("-", "01", "-"), 1), (("01", "02", "."), 2),
+                             (("-00", "-00", "030405"), 3)]:
+            self.expect("0", "new", "00", *words)
+            self.expect(share, "spent")
+        self.note("a message handed over: begin none, a feed its blocks, a finish one")
+        for kind in ["seal", "open"]:
+            for words, share in [(("begin", kind), 0), (("feed", kind, 20, self.data(20), 1), 1), (("feed", kind, 6, self.data(6), 0), 0),
+                                 (("feed", kind, 60, self.data(60), 5), 3), (finish_line(kind, bytes(16)), 1)]:
+                self.ask(*words)
+                self.expect(share, "spent")
+        self.note("a wrong tag spends what a right one does")
+        start, message = ("new", self.data(16), "-", "-", "-"), self.bytes(50)
+        self.ask(*start)
+        ciphertext, tag = sealed_of(self.ask(*seal_line("combined", message)))
+        self.expect(4, "spent")
+        for form in FORMS:
+            for given in [tag, flipped(tag, 5)]:
+                self.ask(*start)
+                self.ask(*open_line(form, ciphertext, given))
+                self.expect(4, "spent")
+        self.note("lines that leave the count as it was")
+        for line in ["state", "rule", "rule spec", "rule crate", "verify %s %s" % (word(tag), word(tag)), "back up squeeze 100", "hash",
+                     "set keyed down " + self.data(48), "x_permute", "x_rounds 3", "spent", "spent 0", "spent ", "absorb", "squeeze -"]:
+            self.ask(line.encode())
+            self.expect(4, "spent")
+        self.note("a refused call spends none")
+
+        def refused(*words):
+            self.expect("0 .", "squeeze", 0)
+            self.ask(*words)
+            self.expect("0", "spent")
+
+        self.begin("keyed")
+        for words in [("key", self.data(44), "-", "-", "-"), ("key", "00", self.data(43), "-", "-"), ("absorb_more", self.data(50), 45),
+                      ("encrypt", 24, self.data(25)), ("decrypt", 0, "00"), ("aead_encrypt_detached", 24, self.data(25)),
+                      ("aead_encrypt", 15, "-"), ("aead_decrypt_detached", 0, word(tag), "00"), ("aead_decrypt", 0, self.data(17)),
+                      ("aead_decrypt", 5, self.data(15)), ("aead_encrypt_in_place", self.data(15)),
+                      ("aead_decrypt_in_place", self.data(15)), ("feed", "seal", 1, "00", 1), ("finish", "seal")]:
+            refused(*words)
+        refused("new", self.data(44), "-", "-", "-")
+        for words in [("key", "00", "-", "-", "-"), ("ratchet",), ("encrypt_in_place", self.data(25)),
+                      ("aead_encrypt_in_place_detached", self.data(25)), ("aead_decrypt_in_place_detached", self.data(25), word(tag)),
+                      ("begin", "open"), ("finish", "open", word(tag))]:
+            refused(*words)
+        self.begin("keyed")
+        self.expect("0", "begin", "seal")
+        for words in [("absorb", self.data(99)), ("squeeze", 99), ("encrypt_in_place", self.data(99)), ("feed", "open", 1, "00", 1),
+                      ("feed", "seal", 0, "00", 1)]:
+            self.ask("feed", "seal", 24, self.data(24), 1)
+            self.expect("1", "spent")
+            self.ask(*words)
+            self.expect("0", "spent")
+        self.begin("hash")
+        self.random = after
+
     def differences(self, layer):
         """Every listed difference, shown by a line that the original, asked all the same, answers otherwise."""
         self.note("where the original differs: Xoodoo")
@@ -1437,6 +1548,9 @@ class StoredScript(Script):
         return shown
 
     def make(self, layer):
+        if layer == "all":
+            self.note("no session call yet")
+            self.expect("0", "spent")
         self.x_calls()
         self.bad_lines()
         if layer != "x":
@@ -1457,6 +1571,7 @@ class StoredScript(Script):
             self.begin("hash")
             self.lengths_refused()
             self.feeding()
+            self.shares()
         shown = self.differences(layer)
         self.note("the last line has no line feed")
         self.ask("x_state")

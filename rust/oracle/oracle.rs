@@ -4,7 +4,7 @@
 // and change nothing. With `--outside` the latter are put to the original all the same, to show what it does
 // (`panic` where it panics). The original has the crate rule only: the lines of a session that was made under the
 // specification's rule are `unsupported` as well. It has no message handed over bit by bit either: its one-call forms
-// answer for all the bytes so far.
+// answer for all the bytes so far. And it counts no permutations: `spent` is worked out from the lengths on the line.
 use std::io::{self, BufRead, Write};
 use std::panic::{catch_unwind, AssertUnwindSafe};
 use xoodyak::{Xoodoo, XoodyakAny, XoodyakCommon, XoodyakError, XoodyakHash, XoodyakKeyed, XoodyakTag};
@@ -128,6 +128,42 @@ fn unwritten(length: usize) -> Vec<u8> {
     vec![0xa5; length]
 }
 
+// The permutations of a call by its line and its answer, and by the session's mode and phase before it: one for each block and
+// one for a tag, and none before an absorb's first block where the phase is Up. `None`: the line is no session call.
+fn share(line: &str, answer: &str, keyed: bool, down: bool) -> Option<usize> {
+    let size = |word| bytes(word).map_or(0, |data| data.len());
+    let given = |word| optional(word).flatten().map(|data| data.len());
+    let (absorb_rate, squeeze_rate) = if keyed { (44, 24) } else { (16, 16) };
+    let at_least_one = |blocks: usize| blocks.max(1);
+    let absorbed = |blocks: usize| at_least_one(blocks) - if down { 0 } else { 1 };
+    let more_of_key = |id, counter| given(id).map_or(0, |_| 1) + given(counter).map_or(0, at_least_one);
+    let crypted = |message: usize| message.div_ceil(24);
+    let words: Vec<&str> = line.split(' ').collect();
+    let share = match words[..] {
+        ["hash" | "set" | "state" | "rule" | "verify" | "back" | "spent", ..] => return None,
+        [name, ..] if name.starts_with("x_") => return None,
+        ["new", _, _, id, counter] => more_of_key(id, counter),
+        ["key", _, id, _, counter] => absorbed(1) + more_of_key(id, counter),
+        ["absorb", data] => absorbed(size(data).div_ceil(absorb_rate)),
+        ["absorb_more", data, rate] => size(data).div_ceil(number(rate)?.max(1) as usize),
+        ["squeeze" | "squeeze_key", n] => at_least_one(length(n)?.div_ceil(squeeze_rate)),
+        ["squeeze_more", n] => length(n)?.div_ceil(squeeze_rate),
+        ["ratchet"] => 1,
+        ["encrypt" | "decrypt", _, data] | ["encrypt_in_place" | "decrypt_in_place", data] => crypted(size(data)),
+        ["aead_encrypt" | "aead_encrypt_detached", _, data] | ["aead_decrypt_detached", _, _, data] => {
+            crypted(given(data).unwrap_or(0)) + 1
+        }
+        ["aead_encrypt_in_place_detached", data] | ["aead_decrypt_in_place_detached", data, _] => crypted(size(data)) + 1,
+        ["aead_decrypt", _, data] | ["aead_encrypt_in_place" | "aead_decrypt_in_place", data] => {
+            crypted(size(data).saturating_sub(16)) + 1
+        }
+        ["feed" | "finish", ..] => answer.rsplit(' ').next()?.parse().ok()?,
+        _ => 0,
+    };
+    let taken = matches!(answer.split(' ').next(), Some("0" | "4"));
+    Some(if taken { share } else { 0 })
+}
+
 // A message handed over bit by bit, and its bytes so far.
 #[derive(Clone)]
 struct Message {
@@ -141,6 +177,8 @@ struct Runner {
     session: XoodyakAny,
     message: Option<Message>,
     xoodoo: Xoodoo,
+    // The permutations of the last session call.
+    spent: usize,
     outside: bool,
     // Whether sessions are made under the specification's rule, and whether the present one was.
     makes_spec: bool,
@@ -459,8 +497,11 @@ impl Runner {
     fn answer_by_rule(&mut self, line: &str) -> Option<String> {
         let name = line.split(' ').next()?;
         let of_session = name != "verify" && !name.starts_with("x_");
+        let keyed = matches!(self.session, XoodyakAny::Keyed(_));
+        let down = format!("{:?}", self.session).contains("phase: Down");
         let answer = match line {
             "rule" => "crate".to_string(),
+            "spent" => self.spent.to_string(),
             "rule crate" | "rule spec" => {
                 self.makes_spec = line == "rule spec";
                 return Some("0".to_string());
@@ -471,6 +512,7 @@ impl Runner {
         if matches!(name, "hash" | "new") {
             self.is_spec = self.makes_spec;
         }
+        self.spent = share(line, &answer, keyed, down).unwrap_or(self.spent);
         if matches!(name, "hash" | "new" | "set") {
             self.message = None;
         }
@@ -501,7 +543,8 @@ fn main() -> io::Result<()> {
     if outside {
         std::panic::set_hook(Box::new(|_| {}));
     }
-    let mut runner = Runner { session: fresh_hash(), message: None, xoodoo: Xoodoo::default(), outside, makes_spec: false, is_spec: false };
+    let (session, xoodoo) = (fresh_hash(), Xoodoo::default());
+    let mut runner = Runner { session, message: None, xoodoo, spent: 0, outside, makes_spec: false, is_spec: false };
     let mut input = io::BufReader::with_capacity(1 << 16, io::stdin().lock());
     let mut output = io::BufWriter::with_capacity(1 << 16, io::stdout().lock());
     let mut line = Vec::new();

@@ -1,12 +1,15 @@
 -- Blocks, as a loop walks them: a turn takes the rate or what is left, from the front.
 use mathlib.Core.Path.{_≡_, refl, sym, ap, _∙_}
 use mathlib.Core.List.{List, [], _∷_}
-use Prim.Native.Nat.{ℕ, zero, suc, _+_, _-_, _<_, _≤_, min}
-use native.Mathlib.Nat.{not-suc-le-zero, le-refl}
+use mathlib.Core.Bool.{Bool, true, false}
+use Prim.Native.Nat.{ℕ, zero, suc, _+_, _-_, _/_, _<_, _≤_, min, max}
+use native.Mathlib.Nat.{not-suc-le-zero, le-refl, div-eq-of-lt, div-eq-sub-div}
 use native.Mathlib.Omega.{arith}
+use lib.Dec.{ltb}
 use lib.ListN.{length, take, drop, length-drop}
 use lib.Seq.{drop-drop}
-use Rattle.laws.specs.Blocks.{cut, cuts, blocks, cutSizes, sizes}
+use borrow.Author.Tests.{ltb-true, ltb-false}
+use Rattle.laws.specs.Blocks.{cut, cuts, blocks, cutSizes, sizes, blockCount}
 use Rattle.laws.proofs.Lists.{take-min, drop-min}
 
 cut-nil : (f r : ℕ) → cut f r [] ≡ []
@@ -87,3 +90,47 @@ pub turn-sizes : (r i e n : ℕ) → 0 < r → i < n → e ≡ i + min r (n - i)
 turn-sizes r i e n p h q =
     let g : (n - i) - (e - i) ≡ n - e = omega arith in
     sizes-step r (n - i) (e - i) p (omega arith) (omega arith) ∙ ap (λ (m : ℕ). (e - i) ∷ sizes r m) g
+
+-- ---- how many runs there are
+count-last : (r n : ℕ) → n < r → blockCount r (suc n - r) ≡ n / r
+unfolding blockCount
+count-last r n h = let z : suc n - r ≡ 0 = omega arith in rw z (sym (div-eq-of-lt h))
+
+count-more : (r n : ℕ) → 0 < r → r ≤ n → blockCount r (suc n - r) ≡ n / r
+unfolding blockCount
+count-more r n p h = let z : suc n - r ≡ suc (n - r) = omega arith in
+    let d : n / r ≡ (n - r) / r + 1 = div-eq-sub-div p h in
+    rw z (omega arith)
+
+pub count-step : (r n : ℕ) → 0 < r → blockCount r (suc n - r) ≡ n / r
+count-step r n p = split (ltb n r) refl where
+  split : (b : Bool) → ltb n r ≡ b → blockCount r (suc n - r) ≡ n / r
+  split true e = count-last r n (ltb-true n r e)
+  split false e = count-more r n p (ltb-false n r e)
+
+cut-count : (f r : ℕ) (x : List ℕ) → 0 < r → length x ≤ f → length (cut f r x) ≡ blockCount r (length x)
+unfolding blockCount
+cut-count zero r [] p h = refl
+cut-count zero r (a ∷ x) p h = absurd (not-suc-le-zero h)
+cut-count (suc f) r [] p h = refl
+cut-count (suc f) r (a ∷ x) p h = ap suc (cut-count f r (drop r (a ∷ x)) p (rw length-drop (omega arith)) ∙ rw length-drop (count-step r (length x) p))
+
+pub cuts-count : (r : ℕ) (x : List ℕ) → 0 < r → length (cuts r x) ≡ blockCount r (length x)
+unfolding cuts
+cuts-count r x p = cut-count (length x) r x p (le-refl _)
+
+pub blocks-count : (r : ℕ) (x : List ℕ) → 0 < r → length (blocks r x) ≡ max 1 (blockCount r (length x))
+unfolding blocks blockCount
+blocks-count r [] p = refl
+blocks-count r (a ∷ x) p = cuts-count r (a ∷ x) p ∙ omega arith
+
+cut-sizes-count : (f r n : ℕ) → 0 < r → n ≤ f → length (cutSizes f r n) ≡ blockCount r n
+unfolding blockCount
+cut-sizes-count zero r zero p h = refl
+cut-sizes-count zero r (suc n) p h = absurd (not-suc-le-zero h)
+cut-sizes-count (suc f) r zero p h = refl
+cut-sizes-count (suc f) r (suc n) p h = ap suc (cut-sizes-count f r (suc n - r) p (omega arith) ∙ count-step r n p)
+
+pub sizes-count : (r n : ℕ) → 0 < r → length (sizes r n) ≡ blockCount r n
+unfolding sizes
+sizes-count r n p = cut-sizes-count n r n p (le-refl _)

@@ -1,6 +1,6 @@
 -- Blocks: an input cut into full rates and a last shorter one.
 use mathlib.Core.List.{List, [], _∷_}
-use Prim.Native.Nat.{ℕ, zero, suc, _-_, min}
+use Prim.Native.Nat.{ℕ, zero, suc, _-_, _/_, min}
 use lib.ListN.{length, take, drop}
 
 -- full runs of r, and a last shorter one; the first argument is fuel, for which the length is enough
@@ -26,3 +26,8 @@ cutSizes (suc f) r (suc n) = min r (suc n) ∷ cutSizes f r (suc n - r)
 -- the lengths of the runs of n bytes; none where n is 0
 unfoldable pub sizes : ℕ → ℕ → List ℕ
 sizes r n = cutSizes n r n
+
+-- n divided by r, rounded up: how many runs there are
+unfoldable pub blockCount : ℕ → ℕ → ℕ
+blockCount r zero = 0
+blockCount r (suc n) = suc (n / r)

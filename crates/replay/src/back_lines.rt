@@ -1,4 +1,5 @@
 // The lines that walk one call back, and its step.
+use crate::session_lines::Held;
 use crate::session_lines::KeyCall;
 use crate::session_lines::MoreCall;
 use crate::session_lines::SqueezeCall;
@@ -18,16 +19,17 @@ use crate::words::space;
 use check::same;
 use walkback::Before;
 use xoodyak::Answer;
-use xoodyak::Session;
 use xoodyak::cyclist::Phase;
 
-// The session before the call, or as it stands where the step is refused.
-fn before(s: Session, p: Phase, b: Before) -> Answer {
+// The session before the call, or as it stands where the step is refused; the last call's permutations stay.
+fn before(h: Held, p: Phase, b: Before) -> Answer {
+    let s = h.session;
     if b.number != 0 {
         return Answer {
             session: s,
             number: b.number,
             missing: 0,
+            spent: h.spent,
         };
     }
     let d = s.duplex;
@@ -39,43 +41,48 @@ fn before(s: Session, p: Phase, b: Before) -> Answer {
         session: session(st, mode, p, rule, message),
         number: 0,
         missing: 0,
+        spent: h.spent,
     }
 }
 
-pub fn absorb(s: Session, p: Phase, bin: &[u8]) -> Answer {
+pub fn absorb(h: Held, p: Phase, bin: &[u8]) -> Answer {
+    let s = h.session;
     let d = s.duplex;
     let st = d.st;
     let mode = d.mode;
     let rule = s.rule;
-    before(s, p, walkback::absorb(st, rule, mode, p, bin))
+    before(h, p, walkback::absorb(st, rule, mode, p, bin))
 }
 
-pub fn absorb_more(s: Session, p: Phase, bin: &[u8], rate: usize) -> Answer {
+pub fn absorb_more(h: Held, p: Phase, bin: &[u8], rate: usize) -> Answer {
+    let s = h.session;
     let d = s.duplex;
     let st = d.st;
     let mode = d.mode;
     let rule = s.rule;
-    before(s, p, walkback::absorb_more(st, rule, mode, p, bin, rate))
+    before(h, p, walkback::absorb_more(st, rule, mode, p, bin, rate))
 }
 
-pub fn encrypt(s: Session, p: Phase, bin: &[u8]) -> Answer {
+pub fn encrypt(h: Held, p: Phase, bin: &[u8]) -> Answer {
+    let s = h.session;
     let d = s.duplex;
     let st = d.st;
     let mode = d.mode;
     let rule = s.rule;
-    before(s, p, walkback::encrypt(st, rule, mode, p, bin))
+    before(h, p, walkback::encrypt(st, rule, mode, p, bin))
 }
 
-pub fn seal(s: Session, p: Phase, bin: &[u8]) -> Answer {
+pub fn seal(h: Held, p: Phase, bin: &[u8]) -> Answer {
+    let s = h.session;
     let d = s.duplex;
     let st = d.st;
     let mode = d.mode;
     let rule = s.rule;
-    before(s, p, walkback::seal(st, rule, mode, p, bin))
+    before(h, p, walkback::seal(st, rule, mode, p, bin))
 }
 
 pub fn key<'a>(
-    s: Session,
+    h: Held,
     p: Phase,
     key: &[u8],
     has_id: bool,
@@ -85,6 +92,7 @@ pub fn key<'a>(
     has_counter: bool,
     counter: &[u8],
 ) -> Answer {
+    let s = h.session;
     let d = s.duplex;
     let st = d.st;
     let mode = d.mode;
@@ -102,10 +110,11 @@ pub fn key<'a>(
         has_counter,
         counter,
     );
-    before(s, p, b)
+    before(h, p, b)
 }
 
-fn squeezed(s: Session, p: Phase, how: SqueezeCall, n: usize) -> Before {
+fn squeezed(h: Held, p: Phase, how: SqueezeCall, n: usize) -> Before {
+    let s = h.session;
     let d = s.duplex;
     let st = d.st;
     let mode = d.mode;
@@ -118,52 +127,52 @@ fn squeezed(s: Session, p: Phase, how: SqueezeCall, n: usize) -> Before {
 }
 
 fn squeeze(
-    s: Session,
+    h: Held,
     p: Phase,
     how: SqueezeCall,
     words: &[u8],
     out: &mut [u8],
     at: &mut usize,
-) -> Session {
+) -> Held {
     let store = space();
     let length = room(words, &store);
     if !length.ok {
-        return bad(s, out, at);
+        return bad(h, out, at);
     }
-    done(before(s, p, squeezed(s, p, how, length.n)), out, at)
+    done(before(h, p, squeezed(h, p, how, length.n)), out, at)
 }
 
 // The words after `back`: the phase before the call, and the call.
-pub fn answer(s: Session, line: &[u8], out: &mut [u8], at: &mut usize) -> Session {
+pub fn answer(h: Held, line: &[u8], out: &mut [u8], at: &mut usize) -> Held {
     let PhaseWord::Is(p) = phase(first(line)) else {
-        return bad(s, out, at);
+        return bad(h, out, at);
     };
     let call = rest(line);
     let name = first(call);
     let words = rest(call);
     if same(name, b"absorb") {
-        return taking(s, TakingCall::BackAbsorb(p), words, out, at);
+        return taking(h, TakingCall::BackAbsorb(p), words, out, at);
     }
     if same(name, b"absorb_more") {
-        return taking_more(s, MoreCall::Back(p), words, out, at);
+        return taking_more(h, MoreCall::Back(p), words, out, at);
     }
     if same(name, b"squeeze") {
-        return squeeze(s, p, SqueezeCall::Plain, words, out, at);
+        return squeeze(h, p, SqueezeCall::Plain, words, out, at);
     }
     if same(name, b"squeeze_key") {
-        return squeeze(s, p, SqueezeCall::Key, words, out, at);
+        return squeeze(h, p, SqueezeCall::Key, words, out, at);
     }
     if same(name, b"squeeze_more") {
-        return squeeze(s, p, SqueezeCall::More, words, out, at);
+        return squeeze(h, p, SqueezeCall::More, words, out, at);
     }
     if same(name, b"key") {
-        return keying(s, KeyCall::Back(p), words, out, at);
+        return keying(h, KeyCall::Back(p), words, out, at);
     }
     if same(name, b"encrypt") {
-        return taking(s, TakingCall::BackEncrypt(p), words, out, at);
+        return taking(h, TakingCall::BackEncrypt(p), words, out, at);
     }
     if same(name, b"seal") {
-        return taking(s, TakingCall::BackSeal(p), words, out, at);
+        return taking(h, TakingCall::BackSeal(p), words, out, at);
     }
-    bad(s, out, at)
+    bad(h, out, at)
 }

@@ -1,6 +1,8 @@
 // The lines that encrypt and decrypt, and the shapes that they share with sealing and opening.
 use crate::out;
+use crate::session_lines::Held;
 use crate::session_lines::bad;
+use crate::session_lines::hold;
 use crate::words::bytes;
 use crate::words::first;
 use crate::words::rest;
@@ -31,13 +33,7 @@ fn copied(s: Session, how: CopyingCall, buf: &mut [u8], bin: &[u8]) -> Answer {
     }
 }
 
-pub fn copying(
-    s: Session,
-    how: CopyingCall,
-    words: &[u8],
-    out: &mut [u8],
-    at: &mut usize,
-) -> Session {
+pub fn copying(h: Held, how: CopyingCall, words: &[u8], out: &mut [u8], at: &mut usize) -> Held {
     let mut store = space();
     let length = room(first(words), &store);
     let n = length.n;
@@ -45,12 +41,13 @@ pub fn copying(
     let got = bytes(rest(words), &mut bin);
     let m = got.n;
     if !(length.ok && got.ok) {
-        return bad(s, out, at);
+        return bad(h, out, at);
     }
+    let s = h.session;
     let buf = &mut store[0..n];
     let r = copied(s, how, buf, &bin[0..m]);
     out::number_buf(out, at, r.number, r.missing, buf);
-    r.session
+    hold(r.session, r.spent)
 }
 
 fn changed(s: Session, how: InPlaceCall, buf: &mut [u8]) -> Answer {
@@ -61,39 +58,34 @@ fn changed(s: Session, how: InPlaceCall, buf: &mut [u8]) -> Answer {
     }
 }
 
-pub fn in_place(
-    s: Session,
-    how: InPlaceCall,
-    words: &[u8],
-    out: &mut [u8],
-    at: &mut usize,
-) -> Session {
+pub fn in_place(h: Held, how: InPlaceCall, words: &[u8], out: &mut [u8], at: &mut usize) -> Held {
     let mut store = space();
     let got = bytes(words, &mut store);
     let n = got.n;
     if !got.ok {
-        return bad(s, out, at);
+        return bad(h, out, at);
     }
+    let s = h.session;
     let buf = &mut store[0..n];
     let r = changed(s, how, buf);
     out::number_buf(out, at, r.number, r.missing, buf);
-    r.session
+    hold(r.session, r.spent)
 }
 
-pub fn answer(s: Session, line: &[u8], out: &mut [u8], at: &mut usize) -> Session {
+pub fn answer(h: Held, line: &[u8], out: &mut [u8], at: &mut usize) -> Held {
     let name = first(line);
     let words = rest(line);
     if same(name, b"encrypt") {
-        return copying(s, CopyingCall::Encrypt, words, out, at);
+        return copying(h, CopyingCall::Encrypt, words, out, at);
     }
     if same(name, b"decrypt") {
-        return copying(s, CopyingCall::Decrypt, words, out, at);
+        return copying(h, CopyingCall::Decrypt, words, out, at);
     }
     if same(name, b"encrypt_in_place") {
-        return in_place(s, InPlaceCall::Encrypt, words, out, at);
+        return in_place(h, InPlaceCall::Encrypt, words, out, at);
     }
     if same(name, b"decrypt_in_place") {
-        return in_place(s, InPlaceCall::Decrypt, words, out, at);
+        return in_place(h, InPlaceCall::Decrypt, words, out, at);
     }
-    bad(s, out, at)
+    bad(h, out, at)
 }

@@ -13,6 +13,8 @@ ghost use mathlib.Core.Path.{_≡_};
 ghost use lib.ListN.{length};
 use check::same;
 use libc::STDIN_FILENO;
+use session_lines::Held;
+use session_lines::hold;
 use words::RuleWord;
 use words::begins;
 use words::first;
@@ -26,7 +28,7 @@ const LONGEST: usize = 40000;
 
 // What a runner holds, the rule of the sessions that it makes, how many bytes of the present line have come, and whether there may be more.
 pub struct State {
-    pub session: Session,
+    pub held: Held,
     pub rule: Rule,
     pub xoodoo: Xoodoo,
     pub come: usize,
@@ -36,7 +38,7 @@ pub struct State {
 impl State {
     fn start() -> State {
         State {
-            session: Session::hash(Rule::Crate),
+            held: hold(Session::hash(Rule::Crate), 0),
             rule: Rule::Crate,
             xoodoo: Xoodoo::default(),
             come: 0,
@@ -49,16 +51,16 @@ impl State {
         self
     }
 
-    fn with_session(mut self, s: Session) -> State {
-        self.session = s;
+    fn with_held(mut self, h: Held) -> State {
+        self.held = h;
         self
     }
 
     fn with_rule(self, r: Rule) -> State {
-        let session = self.session;
+        let h = self.held;
         let xoodoo = self.xoodoo;
         State {
-            session: session,
+            held: h,
             rule: r,
             xoodoo: xoodoo,
             come: self.come,
@@ -104,28 +106,28 @@ fn answer(m: State, text: &[u8], n: usize, out: &mut [u8], at: &mut usize) -> St
         let x = m.xoodoo;
         return m.with_xoodoo(xoodoo_lines::answer(x, line, out, at));
     }
-    let s = m.session;
+    let h = m.held;
     if begins(name, b"aead_") {
-        return m.with_session(aead_lines::answer(s, line, out, at));
+        return m.with_held(aead_lines::answer(h, line, out, at));
     }
     if begins(name, b"encrypt") || begins(name, b"decrypt") {
-        return m.with_session(crypt_lines::answer(s, line, out, at));
+        return m.with_held(crypt_lines::answer(h, line, out, at));
     }
     if same(name, b"begin") || same(name, b"feed") || same(name, b"finish") {
-        return m.with_session(feed_lines::answer(s, line, out, at));
+        return m.with_held(feed_lines::answer(h, line, out, at));
     }
     if same(name, b"back") {
-        return m.with_session(back_lines::answer(s, rest(line), out, at));
+        return m.with_held(back_lines::answer(h, rest(line), out, at));
     }
     if same(line, b"rule") {
-        session_lines::own_rule(s, out, at);
+        session_lines::own_rule(h.session, out, at);
         return m;
     }
     if same(name, b"rule") {
         return set_rule(m, rest(line), out, at);
     }
     let r = m.rule;
-    m.with_session(session_lines::answer(s, r, line, out, at))
+    m.with_held(session_lines::answer(h, r, line, out, at))
 }
 
 // Gathers the byte into the line, or answers the line that it ends.

@@ -49,15 +49,28 @@ pub enum SqueezeCall {
     More,
 }
 
-pub fn bad(s: Session, out: &mut [u8], at: &mut usize) -> Session {
+// The session, and the permutations of its last call.
+pub struct Held {
+    pub session: Session,
+    pub spent: usize,
+}
+
+pub fn hold(s: Session, spent: usize) -> Held {
+    Held {
+        session: s,
+        spent: spent,
+    }
+}
+
+pub fn bad(h: Held, out: &mut [u8], at: &mut usize) -> Held {
     out::bad(out, at);
-    s
+    h
 }
 
 // An answer that is its number alone.
-pub fn done(r: Answer, out: &mut [u8], at: &mut usize) -> Session {
+pub fn done(r: Answer, out: &mut [u8], at: &mut usize) -> Held {
     out::number(out, at, r.number);
-    r.session
+    hold(r.session, r.spent)
 }
 
 pub fn session(st: [u8; 48], mode: Mode, phase: Phase, rule: Rule, message: Message) -> Session {
@@ -81,22 +94,23 @@ fn none_begun() -> Message {
     }
 }
 
-fn set(s: Session, words: &[u8], out: &mut [u8], at: &mut usize) -> Session {
+fn set(h: Held, words: &[u8], out: &mut [u8], at: &mut usize) -> Held {
     let after = rest(words);
     let mut st = [0u8; 48];
     let whole = exactly(rest(after), &mut st);
     let ModeWord::Is(m) = mode(first(words)) else {
-        return bad(s, out, at);
+        return bad(h, out, at);
     };
     let PhaseWord::Is(p) = phase(first(after)) else {
-        return bad(s, out, at);
+        return bad(h, out, at);
     };
     if !whole {
-        return bad(s, out, at);
+        return bad(h, out, at);
     }
     out::number(out, at, 0);
+    let s = h.session;
     let rule = s.rule;
-    session(st, m, p, rule, none_begun())
+    hold(session(st, m, p, rule, none_begun()), h.spent)
 }
 
 fn mode_name(out: &mut [u8], at: &mut usize, m: Mode) {
@@ -133,7 +147,7 @@ fn state(s: Session, out: &mut [u8], at: &mut usize) {
 }
 
 fn keyed<'a>(
-    s: Session,
+    h: Held,
     how: KeyCall,
     key: &[u8],
     has_second: bool,
@@ -143,6 +157,7 @@ fn keyed<'a>(
     has_counter: bool,
     counter: &[u8],
 ) -> Answer {
+    let s = h.session;
     match how {
         KeyCall::New(rule) => {
             Session::new(
@@ -169,7 +184,7 @@ fn keyed<'a>(
         }
         KeyCall::Back(p) => {
             back_lines::key(
-                s,
+                h,
                 p,
                 key,
                 has_second,
@@ -183,21 +198,21 @@ fn keyed<'a>(
     }
 }
 
-pub fn keying(s: Session, how: KeyCall, words: &[u8], out: &mut [u8], at: &mut usize) -> Session {
+pub fn keying(h: Held, how: KeyCall, words: &[u8], out: &mut [u8], at: &mut usize) -> Held {
     let mut key = space();
     let mut second = space();
     let mut third = space();
     let mut counter = space();
     let w = key_words(words, &mut key, &mut second, &mut third, &mut counter);
     if !w.ok {
-        return bad(s, out, at);
+        return bad(h, out, at);
     }
     let k = w.key;
     let i = w.second;
     let j = w.third;
     let c = w.counter;
     let r = keyed(
-        s,
+        h,
         how,
         &key[0..k],
         w.has_second,
@@ -210,53 +225,43 @@ pub fn keying(s: Session, how: KeyCall, words: &[u8], out: &mut [u8], at: &mut u
     done(r, out, at)
 }
 
-fn taken(s: Session, how: TakingCall, bin: &[u8]) -> Answer {
+fn taken(h: Held, how: TakingCall, bin: &[u8]) -> Answer {
+    let s = h.session;
     match how {
         TakingCall::Absorb => s.absorb(bin),
-        TakingCall::BackAbsorb(p) => back_lines::absorb(s, p, bin),
-        TakingCall::BackEncrypt(p) => back_lines::encrypt(s, p, bin),
-        TakingCall::BackSeal(p) => back_lines::seal(s, p, bin),
+        TakingCall::BackAbsorb(p) => back_lines::absorb(h, p, bin),
+        TakingCall::BackEncrypt(p) => back_lines::encrypt(h, p, bin),
+        TakingCall::BackSeal(p) => back_lines::seal(h, p, bin),
     }
 }
 
-pub fn taking(
-    s: Session,
-    how: TakingCall,
-    words: &[u8],
-    out: &mut [u8],
-    at: &mut usize,
-) -> Session {
+pub fn taking(h: Held, how: TakingCall, words: &[u8], out: &mut [u8], at: &mut usize) -> Held {
     let mut bin = space();
     let got = bytes(words, &mut bin);
     let n = got.n;
     if !got.ok {
-        return bad(s, out, at);
+        return bad(h, out, at);
     }
-    done(taken(s, how, &bin[0..n]), out, at)
+    done(taken(h, how, &bin[0..n]), out, at)
 }
 
-fn taken_more(s: Session, how: MoreCall, bin: &[u8], rate: usize) -> Answer {
+fn taken_more(h: Held, how: MoreCall, bin: &[u8], rate: usize) -> Answer {
+    let s = h.session;
     match how {
         MoreCall::Absorb => s.absorb_more(bin, rate),
-        MoreCall::Back(p) => back_lines::absorb_more(s, p, bin, rate),
+        MoreCall::Back(p) => back_lines::absorb_more(h, p, bin, rate),
     }
 }
 
-pub fn taking_more(
-    s: Session,
-    how: MoreCall,
-    words: &[u8],
-    out: &mut [u8],
-    at: &mut usize,
-) -> Session {
+pub fn taking_more(h: Held, how: MoreCall, words: &[u8], out: &mut [u8], at: &mut usize) -> Held {
     let mut bin = space();
     let got = bytes(first(words), &mut bin);
     let n = got.n;
     let rate = decimal(rest(words));
     if !(got.ok && rate.ok) {
-        return bad(s, out, at);
+        return bad(h, out, at);
     }
-    done(taken_more(s, how, &bin[0..n], rate.n), out, at)
+    done(taken_more(h, how, &bin[0..n], rate.n), out, at)
 }
 
 fn squeezed(s: Session, how: SqueezeCall, buf: &mut [u8]) -> Answer {
@@ -267,17 +272,18 @@ fn squeezed(s: Session, how: SqueezeCall, buf: &mut [u8]) -> Answer {
     }
 }
 
-fn squeeze(s: Session, how: SqueezeCall, words: &[u8], out: &mut [u8], at: &mut usize) -> Session {
+fn squeeze(h: Held, how: SqueezeCall, words: &[u8], out: &mut [u8], at: &mut usize) -> Held {
     let mut store = space();
     let got = room(words, &store);
     let n = got.n;
     if !got.ok {
-        return bad(s, out, at);
+        return bad(h, out, at);
     }
+    let s = h.session;
     let buf = &mut store[0..n];
     let r = squeezed(s, how, buf);
     out::number_buf(out, at, r.number, r.missing, buf);
-    r.session
+    hold(r.session, r.spent)
 }
 
 fn verify(words: &[u8], out: &mut [u8], at: &mut usize) {
@@ -291,47 +297,52 @@ fn verify(words: &[u8], out: &mut [u8], at: &mut usize) {
 }
 
 // A session made new has the rule given.
-pub fn answer(s: Session, rule: Rule, line: &[u8], out: &mut [u8], at: &mut usize) -> Session {
+pub fn answer(h: Held, rule: Rule, line: &[u8], out: &mut [u8], at: &mut usize) -> Held {
+    let s = h.session;
     let name = first(line);
     let words = rest(line);
     if same(line, b"hash") {
         out::number(out, at, 0);
-        return Session::hash(rule);
+        return hold(Session::hash(rule), h.spent);
     }
     if same(line, b"state") {
         state(s, out, at);
-        return s;
+        return h;
+    }
+    if same(line, b"spent") {
+        out::count(out, at, h.spent);
+        return h;
     }
     if same(line, b"ratchet") {
         return done(s.ratchet(), out, at);
     }
     if same(name, b"new") {
-        return keying(s, KeyCall::New(rule), words, out, at);
+        return keying(h, KeyCall::New(rule), words, out, at);
     }
     if same(name, b"key") {
-        return keying(s, KeyCall::Key, words, out, at);
+        return keying(h, KeyCall::Key, words, out, at);
     }
     if same(name, b"set") {
-        return set(s, words, out, at);
+        return set(h, words, out, at);
     }
     if same(name, b"absorb") {
-        return taking(s, TakingCall::Absorb, words, out, at);
+        return taking(h, TakingCall::Absorb, words, out, at);
     }
     if same(name, b"absorb_more") {
-        return taking_more(s, MoreCall::Absorb, words, out, at);
+        return taking_more(h, MoreCall::Absorb, words, out, at);
     }
     if same(name, b"squeeze") {
-        return squeeze(s, SqueezeCall::Plain, words, out, at);
+        return squeeze(h, SqueezeCall::Plain, words, out, at);
     }
     if same(name, b"squeeze_key") {
-        return squeeze(s, SqueezeCall::Key, words, out, at);
+        return squeeze(h, SqueezeCall::Key, words, out, at);
     }
     if same(name, b"squeeze_more") {
-        return squeeze(s, SqueezeCall::More, words, out, at);
+        return squeeze(h, SqueezeCall::More, words, out, at);
     }
     if same(name, b"verify") {
         verify(words, out, at);
-        return s;
+        return h;
     }
-    bad(s, out, at)
+    bad(h, out, at)
 }

@@ -26,7 +26,9 @@ use Rattle.xoodyak.specs.declared.Rule.the-variants.{Crate, Specification}
 use Rattle.xoodyak.specs.declared.Session.{Session}
 use Rattle.xoodyak.specs.Cyclist.{squeezeRate, upBytes, up, down, readyFrom, ready, absorbBlocks, absorb, moreBlocks, absorbMore, next, nextsEnd, nextsOut, squeezeMoreEnd, squeezeMoreOut, squeezeEnd, squeezeOut, messageBlocks, encEnd, encOut, decEnd, decOut, ratchet, ifGiven, keyCall}
 use Rattle.xoodyak.specs.Numbers.{when, first, unfinishedNumber, modeNumber, keyedNumber}
-use Rattle.xoodyak.specs.Calls.{mode, encryptEnd, encryptOut, decryptEnd, decryptOut, both, sameBytes, tagNumber, verdict, opened, tagEnd, tagOut}
+use Rattle.xoodyak.specs.Shares.{messageShare, sealShare}
+use Rattle.xoodyak.specs.Calls.{mode, encryptEnd, encryptOut, encryptUps, decryptEnd, decryptOut, decryptUps, both, sameBytes, tagNumber, verdict, opened, openUps, sealUps, tagEnd, tagOut}
+use Rattle.xoodyak.proofs.Costs.{encrypt-share, decrypt-share, seal-share, open-share}
 
 -- a buffer of a combined call: all but its last 16 bytes, and those
 abbrev pub allBut16 : List ℕ → List ℕ
@@ -296,6 +298,14 @@ pub decrypt-encrypt-end : (s : Session) (m : List ℕ) → decryptEnd s (encrypt
 unfolding encryptOut encryptEnd decryptEnd
 decrypt-encrypt-end s m = rw (message-back (s .rule) m 0x80 (s .duplex) .1)
 
+-- and spend the same, since a ciphertext is as long as its message
+pub decrypt-encrypt-ups : (s : Session) (m : List ℕ) → decryptUps s (encryptOut s m) ≡ encryptUps s m
+decrypt-encrypt-ups s m = decrypt-share s _ ∙ ap (messageShare (s .rule)) (encrypt-length s m) ∙ sym (encrypt-share s m)
+
+-- also with the tag
+pub open-seal-ups : (s : Session) (m : List ℕ) → openUps s (encryptOut s m) ≡ sealUps s m
+open-seal-ups s m = open-share s _ ∙ ap (sealShare (s .rule)) (encrypt-length s m) ∙ sym (seal-share s m)
+
 -- ---- tags compared
 pub both-true : (a b : Bool) → both a b ≡ true → (a ≡ true) × (b ≡ true)
 both-true true b e = (refl, e)
@@ -333,15 +343,15 @@ tag-decides x y = go (sameBytes x y) refl
         let q : x ≢ y = λ p. let z : _≡_ {A = ℕ} 0 1 = cc (same-bytes x y .1 p) in omega arith in
         (inr refl, (λ z. absurd (omega arith), λ p. absurd (q p)), (λ _. q, λ _. refl))
 
-pub verdict-number : (b : Bool) (s : Session) (good bad : List ℕ) → verdict b s good bad .number ≡ tagNumber b
-verdict-number true s good bad = refl
-verdict-number false s good bad = refl
+pub verdict-number : (b : Bool) (s : Session) (good bad : List ℕ) (u : ℕ) → verdict b s good bad u .number ≡ tagNumber b
+verdict-number true s good bad u = refl
+verdict-number false s good bad u = refl
 
 -- an opening call past its refusals: the tag decides, on all of its bytes
 pub opened-decides : (s : Session) (t c good bad : List ℕ) → Decides (opened s t c good bad .number) (tagOut (decryptEnd s c) ≡ t)
 unfolding opened
 opened-decides s t c good bad =
-    rw (verdict-number (sameBytes (tagOut (decryptEnd s c)) t) (tagEnd (decryptEnd s c)) good bad) (tag-decides (tagOut (decryptEnd s c)) t)
+    rw (verdict-number (sameBytes (tagOut (decryptEnd s c)) t) (tagEnd (decryptEnd s c)) good bad (openUps s c)) (tag-decides (tagOut (decryptEnd s c)) t)
 
 -- ---- numbers
 pub first-zero : (n : ℕ) → first n 0 ≡ n

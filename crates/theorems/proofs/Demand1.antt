@@ -17,7 +17,7 @@ use Rattle.xoodyak.specs.declared.feed.Kind.the-variants.{Seal, Open}
 use Rattle.xoodyak.specs.declared.Session.{Session}
 use Rattle.xoodyak.specs.Cyclist.{absorbRate, given, squeezeOut}
 use Rattle.xoodyak.specs.Numbers.{when, first, unfinishedNumber, modeNumber, keyedNumber, keyNumber, roomNumber, missing, tailNumber, rateNumber, begunNumber, kindNumber}
-use Rattle.xoodyak.specs.Calls.{Outcome, refused, settle, session, mode, both, sameBytes, verdict, opened, tagEnd, tagOut, decryptEnd, verifyOf, absorbOf, absorbMoreOf, squeezeOf, squeezeMoreOf, keyOf, newOf, ratchetOf, encryptOf, decryptOf, encryptInPlaceOf, decryptInPlaceOf, sealDetachedOf, sealOf, sealInPlaceDetachedOf, sealInPlaceOf, openDetachedOf, openOf, openInPlaceDetachedOf, openInPlaceOf}
+use Rattle.xoodyak.specs.Calls.{Outcome, refused, settle, session, mode, both, sameBytes, verdict, opened, openUps, tagEnd, tagOut, decryptEnd, verifyOf, absorbOf, absorbMoreOf, squeezeOf, squeezeMoreOf, keyOf, newOf, ratchetOf, encryptOf, decryptOf, encryptInPlaceOf, decryptInPlaceOf, sealDetachedOf, sealOf, sealInPlaceDetachedOf, sealInPlaceOf, openDetachedOf, openOf, openInPlaceDetachedOf, openInPlaceOf}
 use Rattle.xoodyak.specs.Feed.{Portion, portioned, beginOf, feedOf, ended, finishSealOf, finishOpenOf}
 use Rattle.theorems.proofs.Crypt.{allBut16, last16, first-zero, both-true, Decides, tag-decides, opened-decides}
 
@@ -40,7 +40,7 @@ abbrev pub Counts : ℕ → ℕ → ℕ → Type 0
 Counts n count lacks = (n ≡ 3 → count ≡ lacks) × (n ≢ 3 → count ≡ 0)
 
 -- a call with outcome x on session s and buffer o, which lacks so many bytes: its number is by the rows, its count exact; after all but 0
--- and 4 session and buffer hold what they held and any tag is zeros
+-- and 4 session and buffer hold what they held, any tag is zeros and no permutation is spent
 pub record Answers (x : Outcome) (s : Session) (o : List ℕ) (lacks : ℕ) (rows : List Row) : Type 0 where
   pub number : Exactly (x .number) rows
   pub count : Counts (x .number) (x .missing) lacks
@@ -236,7 +236,7 @@ opened-count : (s : Session) (t c good bad : List ℕ) → opened s t c good bad
 unfolding opened
 opened-count s t c good bad = go (sameBytes (tagOut (decryptEnd s c)) t)
   where
-    go : (b : Bool) → verdict b (tagEnd (decryptEnd s c)) good bad .missing ≡ 0
+    go : (b : Bool) → verdict b (tagEnd (decryptEnd s c)) good bad (openUps s c) .missing ≡ 0
     go true = refl
     go false = refl
 
@@ -265,7 +265,7 @@ opening n k s o t c good bad f counts h g = record {
 -- ---- the calls on a message handed over bit by bit
 -- what their outcome has of any other's
 abbrev pub outcomeOf : Portion → Outcome
-outcomeOf x = record { session = x .session; number = x .number; missing = x .missing; tag = x .tag; bytes = x .bytes }
+outcomeOf x = record { session = x .session; number = x .number; missing = x .missing; tag = x .tag; bytes = x .bytes; spent = x .spent }
 
 -- and after all but 0 and 4 nothing was taken or spent
 pub record Portions (x : Portion) (s : Session) (o : List ℕ) (lacks : ℕ) (rows : List Row) : Type 0 where

@@ -168,19 +168,19 @@ ready-kind : (kind : Kind) (s : Session) → Ready kind s → kindNumber kind s 
 unfolding kindNumber
 ready-kind kind s r = ap₂ (λ b k. begunNumber b kind k) (r .0) (r .1) ∙ begun-own kind
 
-verdict-good : (b : Bool) (s : Session) (good bad : List ℕ) → verdict b s good bad .number ≡ 0 → verdict b s good bad .bytes ≡ good
-verdict-good true s good bad e = refl
-verdict-good false s good bad e = absurd (omega arith)
+verdict-good : (b : Bool) (s : Session) (good bad : List ℕ) (u : ℕ) → verdict b s good bad u .number ≡ 0 → verdict b s good bad u .bytes ≡ good
+verdict-good true s good bad u e = refl
+verdict-good false s good bad u e = absurd (omega arith)
 
 -- ---- from a keyed session with no message begun
 module _ (s : Session) (none : s .message ≡ idle) (keyed : mode s ≡ Keyed) where
   idles : s .message .begun ≡ false
   idles = ap (λ m. m .begun) none
 
-  begin-is : (kind : Kind) → beginOf kind s ≡ taken (begunAt kind (s .rule) 0 (s .duplex)) noTag []
+  begin-is : (kind : Kind) → beginOf kind s ≡ taken (begunAt kind (s .rule) 0 (s .duplex)) noTag [] 0
   unfolding beginOf
   begin-is kind =
-      ap (λ n. settle n 0 s [] (taken (begunAt kind (s .rule) 0 (s .duplex)) noTag [])) (keyed-taken s idles keyed)
+      ap (λ n. settle n 0 s [] (taken (begunAt kind (s .rule) 0 (s .duplex)) noTag [] 0)) (keyed-taken s idles keyed)
 
   module _ (kind : Kind) (os : List Offer) where
     ran : Ran kind (s .rule) 0 (s .duplex) (input kind s os) (output kind s os) (spent kind s os) (stop kind s os)
@@ -261,8 +261,8 @@ module _ (s : Session) (none : s .message ≡ idle) (keyed : mode s ≡ Keyed) w
         output-is Open os,
         ap (λ x. x .number) (finish-open-is os t)
             ∙ ap (λ d. tagNumber (sameBytes (squeezeOut d 16 0x40) (t .bytes))) (ended-is Open os)
-            ∙ sym (ap (λ x. x .number) x ∙ verdict-number v _ _ _),
-        ap (λ x. x .session) (finish-open-is os t) ∙ past-is Open os ∙ sym (ap (λ x. x .session) x ∙ verdict-end v _ _ _),
+            ∙ sym (ap (λ x. x .number) x ∙ verdict-number v _ _ _ _),
+        ap (λ x. x .session) (finish-open-is os t) ∙ past-is Open os ∙ sym (ap (λ x. x .session) x ∙ verdict-end v _ _ _ _),
       )
 
   -- so, where the offers took all of c, it is the one-call form, of which 4 zeroes the text that feeding has handed out
@@ -278,7 +278,7 @@ module _ (s : Session) (none : s .message ≡ idle) (keyed : mode s ≡ Keyed) w
       rw (← e) (
         o .1,
         o .2,
-        λ z. o .0 ∙ sym (ap (λ y. y .bytes) x ∙ verdict-good (sameBytes (tagOut (decryptEnd s (input Open s os))) (t .bytes)) _ _ _ (sym (ap (λ y. y .number) x) ∙ z)),
+        λ z. o .0 ∙ sym (ap (λ y. y .bytes) x ∙ verdict-good (sameBytes (tagOut (decryptEnd s (input Open s os))) (t .bytes)) _ _ _ _ (sym (ap (λ y. y .number) x) ∙ z)),
       )
 
   -- so what was sealed with any cuts is opened with any others: the text, 0, and the same end session

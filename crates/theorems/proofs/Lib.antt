@@ -12,6 +12,9 @@ pub mod WalkSteps
 pub mod WalkCalls
 pub mod WalkBack
 pub mod Feeding
+pub mod Cost
+pub mod CostCalls
+pub mod CostSteps
 pub mod Marked
 pub mod MarkedSessions
 pub mod Decides

@@ -21,6 +21,7 @@ use Rattle.xoodyak.specs.declared.cyclist.Phase.the-variants.{Down}
 use Rattle.xoodyak.specs.declared.cyclist.Duplex.{Duplex}
 use Rattle.xoodyak.specs.declared.Session.{Session}
 use Rattle.xoodyak.specs.Cyclist.{squeezeRate, upBytes, downBytes, up, down, ready, absorbBlocks, absorb, nextsEnd, nextsOut, squeezeMoreEnd, squeezeMoreOut, squeezeEnd, squeezeOut, ratchet}
+use Rattle.xoodyak.specs.Ups.{ratchetUps}
 use Rattle.xoodyak.specs.Numbers.{keyedNumber}
 use Rattle.xoodyak.specs.Calls.{idle, noTag, taken, settle, onward, mode, ratchetOf}
 use Rattle.theorems.proofs.Crypt.{up-length, add-zero-at, one-block, keyed-taken}
@@ -80,19 +81,19 @@ pub ratchet-end :
 unfolding ratchetOf down up upBytes
 ratchet-end s idle keyed =
     let d = s .duplex in
-    ap (λ (n : ℕ). settle n 0 s [] (taken (onward s (ratchet d)) noTag []) .session .duplex) (keyed-taken s idle keyed)
+    ap (λ (n : ℕ). settle n 0 s [] (taken (onward s (ratchet d)) noTag [] (ratchetUps d)) .session .duplex) (keyed-taken s idle keyed)
     ∙ ratchet-is d
     ∙ ap (λ (m : Mode). down (up (record { st = d .st; mode = m; phase = d .phase }) 0x10) (take 16 (upBytes m 0x10 (d .st))) 0) keyed
     ∙ ap (λ (b : List ℕ). record { st = b; mode = Keyed; phase = Down }) (down-16 (permuted s) (rw xoodoo-length (lit≤ tt)))
 
 -- ---- which states it merges
-settle-message : (n k : ℕ) (s : Session) (d : Duplex) → settle n k s [] (taken (onward s d) noTag []) .session .message ≡ s .message
-settle-message zero k s d = refl
-settle-message (suc n) k s d = refl
+settle-message : (n k : ℕ) (s : Session) (d : Duplex) (u : ℕ) → settle n k s [] (taken (onward s d) noTag [] u) .session .message ≡ s .message
+settle-message zero k s d u = refl
+settle-message (suc n) k s d u = refl
 
 ratchet-message : (s : Session) → ratchetOf s .session .message ≡ s .message
 unfolding ratchetOf
-ratchet-message s = settle-message (keyedNumber s) 0 s (ratchet (s .duplex))
+ratchet-message s = settle-message (keyedNumber s) 0 s (ratchet (s .duplex)) _
 
 -- two keyed states under one rule, with no message begun, end equal exactly when, after 10 (hex) is xored into byte 47 and Xoodoo applied, they agree on bytes 16 to 47
 pub ratchet-merges :

@@ -23,13 +23,13 @@ settle-keeps : (n k : ℕ) (s : Session) (o : List ℕ) (x : Outcome) → Keeps 
 settle-keeps zero k s o x e = e
 settle-keeps (suc n) k s o x e = refl
 
-verdict-keeps : (b : Bool) (s : Session) (good bad : List ℕ) → Keeps (verdict b s good bad) (s .rule)
-verdict-keeps true s good bad = refl
-verdict-keeps false s good bad = refl
+verdict-keeps : (b : Bool) (s : Session) (good bad : List ℕ) (u : ℕ) → Keeps (verdict b s good bad u) (s .rule)
+verdict-keeps true s good bad u = refl
+verdict-keeps false s good bad u = refl
 
 opened-keeps : (s : Session) (t c good bad : List ℕ) → Keeps (opened s t c good bad) (s .rule)
 unfolding opened tagEnd decryptEnd
-opened-keeps s t c good bad = verdict-keeps (sameBytes (tagOut (decryptEnd s c)) t) (tagEnd (decryptEnd s c)) good bad
+opened-keeps s t c good bad = verdict-keeps (sameBytes (tagOut (decryptEnd s c)) t) (tagEnd (decryptEnd s c)) good bad _
 
 -- `new`, taken or refused
 pub new-rule :

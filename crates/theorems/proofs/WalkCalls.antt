@@ -222,12 +222,12 @@ unfolding decryptInPlaceOf callNumber keyedNumber
 decrypt-in-place-end s b h = rw (sym (decrypt-in-place-number s b) ∙ h) (decrypted-end s b)
 
 -- an opening, whether the tag was right or not, ends where the sealing of what it recovered ends
-pub verdict-end : (v : Bool) (s : Session) (good bad : List ℕ) → verdict v s good bad .session ≡ s
-verdict-end true s good bad = refl
-verdict-end false s good bad = refl
+pub verdict-end : (v : Bool) (s : Session) (good bad : List ℕ) (u : ℕ) → verdict v s good bad u .session ≡ s
+verdict-end true s good bad u = refl
+verdict-end false s good bad u = refl
 
 pub open-end : (s : Session) (t c good bad : List ℕ) → opened s t c good bad .session .duplex ≡ forward (s .rule) (seals (decryptOut s c)) (s .duplex)
 unfolding opened tagEnd forward
 open-end s t c good bad =
-    ap (λ e. e .duplex) (verdict-end (sameBytes (tagOut (decryptEnd s c)) t) (tagEnd (decryptEnd s c)) good bad)
+    ap (λ e. e .duplex) (verdict-end (sameBytes (tagOut (decryptEnd s c)) t) (tagEnd (decryptEnd s c)) good bad _)
     ∙ ap (λ d. squeezeEnd d 16 0x40) (decrypted-end s c)

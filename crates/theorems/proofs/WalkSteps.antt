@@ -271,7 +271,7 @@ absorb-blocks-run [] cd d = refl
 absorb-blocks-run (b ∷ bs) cd d =
     later-runs bs (down (readyFrom (d .phase) d) b cd) refl ∙ sym (ready-runs (d .phase) (downStep b cd ∷ blockSteps 0 bs) d)
 
-absorb-runs : (r cd : ℕ) (d : Duplex) (x : List ℕ) → absorb r cd d x ≡ runAll (absorbSteps (d .phase) r cd x) d
+pub absorb-runs : (r cd : ℕ) (d : Duplex) (x : List ℕ) → absorb r cd d x ≡ runAll (absorbSteps (d .phase) r cd x) d
 unfolding absorb absorbSteps
 absorb-runs r cd d x = absorb-blocks-run (blocks r x) cd d
 
@@ -284,7 +284,7 @@ squeeze-more-runs : (d : Duplex) (n : ℕ) → squeezeMoreEnd d n ≡ runAll (sq
 unfolding squeezeMoreEnd squeezeMoreSteps
 squeeze-more-runs d n = nexts-run (sizes (squeezeRate (d .mode)) n) d
 
-squeeze-runs : (d : Duplex) (n cu : ℕ) → squeezeEnd d n cu ≡ runAll (squeezeSteps (d .mode) cu n) d
+pub squeeze-runs : (d : Duplex) (n cu : ℕ) → squeezeEnd d n cu ≡ runAll (squeezeSteps (d .mode) cu n) d
 unfolding squeezeEnd squeezeSteps runAll stepped up
 squeeze-runs d n cu = squeeze-more-runs (up d cu) (n - squeezeRate (d .mode))
 
@@ -311,7 +311,7 @@ unfolding absorbBlocks down
 absorb-blocks-phase [] cd d e = e
 absorb-blocks-phase (b ∷ bs) cd d e = absorb-blocks-phase bs 0 (down (ready d) b cd) refl
 
-absorb-phase : (r cd : ℕ) (d : Duplex) (x : List ℕ) → absorb r cd d x .phase ≡ Down
+pub absorb-phase : (r cd : ℕ) (d : Duplex) (x : List ℕ) → absorb r cd d x .phase ≡ Down
 unfolding absorb blocks cuts absorbBlocks down
 absorb-phase r cd d [] = refl
 absorb-phase r cd d (a ∷ x) = absorb-blocks-phase (cut (length x) r (drop r (a ∷ x))) 0 (down (ready d) (take r (a ∷ x)) cd) refl
@@ -326,7 +326,7 @@ unfolding squeezeMoreEnd sizes nextsEnd next up
 more-phase d zero = refl
 more-phase d (suc n) = nexts-phase (cutSizes n (squeezeRate (d .mode)) (suc n - squeezeRate (d .mode))) (next d) refl
 
-squeeze-phase : (d : Duplex) (n cu : ℕ) → squeezeEnd d n cu .phase ≡ Up
+pub squeeze-phase : (d : Duplex) (n cu : ℕ) → squeezeEnd d n cu .phase ≡ Up
 unfolding squeezeEnd squeezeMoreEnd up
 squeeze-phase d n cu = nexts-phase (sizes (squeezeRate (d .mode)) (n - squeezeRate (d .mode))) (up d cu) refl
 

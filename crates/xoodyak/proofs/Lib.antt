@@ -5,3 +5,5 @@ pub mod Same
 pub mod Settle
 pub mod Feeding
 pub mod Sealing
+pub mod Costs
+pub mod CostsOfFeeds

@@ -11,7 +11,7 @@ use Rattle.laws.proofs.Lists.{put-front-tail, front-mid}
 use Rattle.xoodyak.specs.declared.Session.{Session}
 use Rattle.xoodyak.specs.declared.tag.Tag.{Tag}
 use Rattle.xoodyak.specs.Numbers.{first, keyedNumber, roomNumber, missing, tailNumber}
-use Rattle.xoodyak.specs.Calls.{Outcome, noTag, taken, refused, encryptEnd, encryptOut, decryptEnd, decryptOut, tagEnd, tagOut, sameBytes, sealDetachedOf, sealOf, sealInPlaceDetachedOf, sealInPlaceOf, verdict, opened, openDetachedOf, openOf, openInPlaceDetachedOf, openInPlaceOf}
+use Rattle.xoodyak.specs.Calls.{Outcome, noTag, taken, refused, encryptEnd, encryptOut, decryptEnd, decryptOut, tagEnd, tagOut, sealUps, openUps, sameBytes, sealDetachedOf, sealOf, sealInPlaceDetachedOf, sealInPlaceOf, verdict, opened, openDetachedOf, openOf, openInPlaceDetachedOf, openInPlaceOf}
 use Rattle.xoodyak.proofs.Settle.{settle-taken, room-refused, first-zero, first-other, room-fits, tail-fits, copied-front, copied-rest}
 
 -- ---- what the number k of a call that was not refused tells of its lengths
@@ -55,49 +55,49 @@ zeroed-whole n x y l e =
 -- ---- sealing: x was encrypted to f and t squeezed; k was the number
 module _ (s a b : Session) (x f t : List ℕ) (ea : a ≡ encryptEnd s x) (ef : f ≡ encryptOut s x) (eb : b ≡ tagEnd a) (et : t ≡ tagOut a) (k : ℕ) (z : k ≡ 0) where
   pub seal-detached : (o m w : List ℕ) → k ≡ first (keyedNumber s) (roomNumber (length o) (length m)) → w ≡ m ++ drop (length m) o → x ≡ take (length m) w
-      → taken b t (f ++ drop (length m) w) ≡ sealDetachedOf s o m
+      → taken b t (f ++ drop (length m) w) (sealUps s x) ≡ sealDetachedOf s o m
   unfolding sealDetachedOf
   seal-detached o m w ek ew ex = rw (eb, et, ef, ea, ex, copied-front m o w ew, copied-rest m o w ew) (sym (settle-taken _ k ek _ s o _ z))
 
   pub seal-copy : (o m w : List ℕ) → k ≡ first (keyedNumber s) (roomNumber (length o) (length m + 16)) → w ≡ m ++ drop (length m) o → x ≡ take (length m) w → length f ≡ length m
-      → taken b noTag (putMid (length m) (length m + 16 - length m) (f ++ drop (length m) w) t) ≡ sealOf s o m
+      → taken b noTag (putMid (length m) (length m + 16 - length m) (f ++ drop (length m) w) t) (sealUps s x) ≡ sealOf s o m
   unfolding sealOf
   seal-copy o m w ek ew ex lf =
       rw (front-mid (length m) (length m + 16) f w o t lf (omega arith) (copied-rest m o w ew), eb, et, ef, ea, ex, copied-front m o w ew)
       (sym (settle-taken _ k ek _ s o _ z))
 
-  pub seal-in-place-detached : k ≡ keyedNumber s → taken b t f ≡ sealInPlaceDetachedOf s x
+  pub seal-in-place-detached : k ≡ keyedNumber s → taken b t f (sealUps s x) ≡ sealInPlaceDetachedOf s x
   unfolding sealInPlaceDetachedOf
   seal-in-place-detached ek = rw (eb, et, ef, ea) (sym (settle-taken _ k ek _ s x _ z))
 
   pub seal-in-place : (o : List ℕ) → k ≡ first (keyedNumber s) (tailNumber (length o)) → x ≡ take (length o - 16) o → length f ≡ length o - 16
-      → taken b noTag (putMid (length o - 16) (length (f ++ drop (length o - 16) o) - (length o - 16)) (f ++ drop (length o - 16) o) t) ≡ sealInPlaceOf s o
+      → taken b noTag (putMid (length o - 16) (length (f ++ drop (length o - 16) o) - (length o - 16)) (f ++ drop (length o - 16) o) t) (sealUps s x) ≡ sealInPlaceOf s o
   unfolding sealInPlaceOf
   seal-in-place o ek ex lf = rw (put-front-tail (length o - 16) f o t lf, eb, et, ef, ea, ex) (sym (settle-taken _ k ek _ s o _ z))
 
 -- ---- the comparison decided
-module _ (v : Bool) (s : Session) (good bad : List ℕ) (y : Outcome) where
-  pub same : v ≡ true → verdict v s good bad ≡ y → taken s noTag good ≡ y
-  same e h = sym (ap (λ (u : Bool). verdict u s good bad) e) ∙ h
+module _ (v : Bool) (s : Session) (good bad : List ℕ) (u : ℕ) (y : Outcome) where
+  pub same : v ≡ true → verdict v s good bad u ≡ y → taken s noTag good u ≡ y
+  same e h = sym (ap (λ (w : Bool). verdict w s good bad u) e) ∙ h
 
-  pub differs : v ≡ false → verdict v s good bad ≡ y → refused s 4 0 bad ≡ y
-  differs e h = sym (ap (λ (u : Bool). verdict u s good bad) e) ∙ h
+  pub differs : v ≡ false → verdict v s good bad u ≡ y → verdict false s good bad u ≡ y
+  differs e h = sym (ap (λ (w : Bool). verdict w s good bad u) e) ∙ h
 
 -- ---- opening: x was decrypted to f, t squeezed and compared with u
 module _ (s a b : Session) (x f t u : List ℕ) (v : Bool) (ea : a ≡ decryptEnd s x) (ef : f ≡ decryptOut s x) (eb : b ≡ tagEnd a) (et : t ≡ tagOut a) (ev : v ≡ sameBytes t u) (k : ℕ) (z : k ≡ 0) where
-  opened-is : (good bad : List ℕ) → verdict v b good bad ≡ opened s u x good bad
+  opened-is : (good bad : List ℕ) → verdict v b good bad (openUps s x) ≡ opened s u x good bad
   unfolding opened
   opened-is good bad = rw (ev, eb, et, ea)
 
   pub open-detached : (o m w : List ℕ) (tag : Tag) → k ≡ first (keyedNumber s) (roomNumber (length o) (length m)) → w ≡ m ++ drop (length m) o → x ≡ take (length m) w → u ≡ tag .bytes
-      → verdict v b (f ++ drop (length m) w) (replicate (length o) 0) ≡ openDetachedOf s o tag m
+      → verdict v b (f ++ drop (length m) w) (replicate (length o) 0) (openUps s x) ≡ openDetachedOf s o tag m
   unfolding openDetachedOf
   open-detached o m w tag ek ew ex eu =
       opened-is _ _ ∙ rw (ef, ex, copied-front m o w ew, copied-rest m o w ew, eu) (sym (settle-taken _ k ek _ s o _ z))
 
   pub open-copy : (o i w : List ℕ) → 16 ≤ length i → k ≡ first (first (keyedNumber s) (tailNumber (length i))) (roomNumber (length o) (length i - 16))
       → w ≡ take (length i - 16) i ++ drop (length (take (length i - 16) i)) o → x ≡ take (length i - 16) w → u ≡ drop (length i - 16) i
-      → verdict v b (f ++ drop (length i - 16) w) (replicate (length o) 0) ≡ openOf s o i
+      → verdict v b (f ++ drop (length i - 16) w) (replicate (length o) 0) (openUps s x) ≡ openOf s o i
   unfolding openOf
   open-copy o i w h ek ew ex eu =
       let n = length i - 16 in
@@ -107,11 +107,11 @@ module _ (s a b : Session) (x f t u : List ℕ) (v : Bool) (ea : a ≡ decryptEn
       opened-is _ _ ∙ rw (ef, ex, e, take-at m (drop n o) n l, drop-at m (drop n o) n l, eu) (sym (settle-taken _ k ek _ s o _ z))
 
   pub open-in-place-detached : (tag : Tag) → k ≡ keyedNumber s → u ≡ tag .bytes
-      → verdict v b f (replicate (length x) 0) ≡ openInPlaceDetachedOf s x tag
+      → verdict v b f (replicate (length x) 0) (openUps s x) ≡ openInPlaceDetachedOf s x tag
   unfolding openInPlaceDetachedOf
   open-in-place-detached tag ek eu = opened-is _ _ ∙ rw (ef, eu) (sym (settle-taken _ k ek _ s x _ z))
 
   pub open-in-place : (o : List ℕ) → k ≡ first (keyedNumber s) (tailNumber (length o)) → x ≡ take (length o - 16) o → u ≡ drop (length o - 16) o
-      → verdict v b (f ++ drop (length o - 16) o) (replicate (length o - 16) 0 ++ drop (length o - 16) o) ≡ openInPlaceOf s o
+      → verdict v b (f ++ drop (length o - 16) o) (replicate (length o - 16) 0 ++ drop (length o - 16) o) (openUps s x) ≡ openInPlaceOf s o
   unfolding openInPlaceOf
   open-in-place o ek ex eu = opened-is _ _ ∙ rw (ef, eu, ex) (sym (settle-taken _ k ek _ s o _ z))

@@ -165,6 +165,15 @@ module _ (m : Mode) where
   rate-fits zero e = absurd (suc-ne-zero _ e)
   rate-fits (suc r) e = let h = ltb-false (absorbRate m) (suc r) (when-zero _ _ e) in (omega arith, omega (arith, h, absorb-rate-fits m .1))
 
+-- no keyed call refused, the mode is Keyed
+mode-zero : (m : Mode) → modeNumber m ≡ 0 → m ≡ Keyed
+mode-zero Hash e = absurd (suc-ne-zero _ e)
+mode-zero Keyed e = refl
+
+pub keyed-mode : (s : Session) (n : ℕ) → n ≡ keyedNumber s → n ≡ 0 → s .duplex .mode ≡ Keyed
+unfolding keyedNumber
+keyed-mode s n e z = mode-zero _ (first-zero (unfinishedNumber s) (modeNumber (s .duplex .mode)) (sym e ∙ z) .1)
+
 -- ---- a message m that was copied to the front of the output o, which then holds w
 module _ (m o w : List ℕ) (e : w ≡ m ++ drop (length m) o) where
   pub copied-front : take (length m) w ≡ m

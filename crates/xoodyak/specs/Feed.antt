@@ -139,7 +139,7 @@ portioned (suc n) k s o x = record { session = s; number = suc n; missing = k; t
 unfoldable pub beginOf : Kind → Session → Outcome
 beginOf kind s =
     settle (keyedNumber s) 0 s []
-    (taken (record { duplex = s .duplex; rule = s .rule; message = record { begun = true; kind = kind; place = 0 } }) noTag [])
+    (taken (record { duplex = s .duplex; rule = s .rule; message = record { begun = true; kind = kind; place = 0 } }) noTag [] 0)
 
 -- 7, then 1, then 3; bytes past those taken keep what they held
 unfoldable pub feedOf : Kind → Session → List ℕ → List ℕ → ℕ → Portion

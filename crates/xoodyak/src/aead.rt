@@ -46,12 +46,17 @@ impl Session {
         let number = first(self.keyed_number(), room_number(out.len(), n));
         let mut tag = [0u8; 16];
         if number != 0 {
-            return self.sealed(number, missing(number, out.len(), n), Tag::from_bytes(tag));
+            return self.sealed(
+                number,
+                missing(number, out.len(), n),
+                Tag::from_bytes(tag),
+                0,
+            );
         }
         copy_into(out, m);
         let s = self.encrypt_message(&mut out[..n]);
         let t = s.squeeze_tag(&mut tag);
-        t.sealed(0, 0, Tag::from_bytes(tag))
+        t.sealed(0, 0, Tag::from_bytes(tag), self.seal_share(n))
     }
 
     pub fn aead_encrypt(self, out: &mut [u8], has_bin: bool, bin: &[u8]) -> Answer
@@ -69,7 +74,7 @@ impl Session {
         }
         copy_into(out, m);
         let s = self.encrypt_message(&mut out[..n]);
-        s.squeeze_tag(&mut out[n..e]).answer(0)
+        s.squeeze_tag(&mut out[n..e]).paid(0, self.seal_share(n))
     }
 
     pub fn aead_encrypt_in_place_detached(self, in_out: &mut [u8]) -> Sealed
@@ -79,11 +84,11 @@ impl Session {
         let number = self.keyed_number();
         let mut tag = [0u8; 16];
         if number != 0 {
-            return self.sealed(number, 0, Tag::from_bytes(tag));
+            return self.sealed(number, 0, Tag::from_bytes(tag), 0);
         }
         let s = self.encrypt_message(in_out);
         let past = s.squeeze_tag(&mut tag);
-        past.sealed(0, 0, Tag::from_bytes(tag))
+        past.sealed(0, 0, Tag::from_bytes(tag), self.seal_share(in_out.len()))
     }
 
     pub fn aead_encrypt_in_place(self, in_out: &mut [u8]) -> Answer
@@ -97,7 +102,7 @@ impl Session {
         }
         let n = len - 16;
         let s = self.encrypt_message(&mut in_out[..n]);
-        s.squeeze_tag(&mut in_out[n..]).answer(0)
+        s.squeeze_tag(&mut in_out[n..]).paid(0, self.seal_share(n))
     }
 
     pub fn aead_decrypt_detached(
@@ -122,10 +127,10 @@ impl Session {
         let t = s.squeeze_tag(&mut computed);
         let received = tag.bytes;
         if same_bytes(&computed, &received) {
-            return t.answer(0);
+            return t.paid(0, self.seal_share(n));
         }
         clear(out);
-        t.answer(4)
+        t.paid(4, self.seal_share(n))
     }
 
     pub fn aead_decrypt(self, out: &mut [u8], bin: &[u8]) -> Answer
@@ -148,10 +153,10 @@ impl Session {
         let mut computed = [0u8; 16];
         let t = s.squeeze_tag(&mut computed);
         if same_bytes(&computed, &bin[n..]) {
-            return t.answer(0);
+            return t.paid(0, self.seal_share(n));
         }
         clear(&mut out[..room]);
-        t.answer(4)
+        t.paid(4, self.seal_share(n))
     }
 
     pub fn aead_decrypt_in_place_detached(self, in_out: &mut [u8], tag: Tag) -> Answer
@@ -167,10 +172,10 @@ impl Session {
         let t = s.squeeze_tag(&mut computed);
         let received = tag.bytes;
         if same_bytes(&computed, &received) {
-            return t.answer(0);
+            return t.paid(0, self.seal_share(in_out.len()));
         }
         clear(in_out);
-        t.answer(4)
+        t.paid(4, self.seal_share(in_out.len()))
     }
 
     pub fn aead_decrypt_in_place(self, in_out: &mut [u8]) -> Answer
@@ -187,9 +192,9 @@ impl Session {
         let mut computed = [0u8; 16];
         let past = s.squeeze_tag(&mut computed);
         if same_bytes(&computed, &in_out[n..]) {
-            return past.answer(0);
+            return past.paid(0, self.seal_share(n));
         }
         clear(&mut in_out[..n]);
-        past.answer(4)
+        past.paid(4, self.seal_share(n))
     }
 }

@@ -9,6 +9,7 @@ use crate::cyclist::Duplex;
 use crate::cyclist::Mode;
 use crate::feed::Message;
 use crate::numbers::first;
+use crate::shares::block_count;
 
 impl Session {
     pub fn hash(rule: Rule) -> Session
@@ -30,7 +31,8 @@ impl Session {
             return self.answer(number);
         }
         let rate = d.absorb_rate();
-        self.onward(d.absorb_any(bin, rate, 0x03)).answer(0)
+        self.onward(d.absorb_any(bin, rate, 0x03))
+            .paid(0, d.absorb_share(rate, bin.len()))
     }
 
     pub fn absorb_more(self, bin: &[u8], rate: usize) -> Answer
@@ -41,7 +43,8 @@ impl Session {
         if number != 0 {
             return self.answer(number);
         }
-        self.onward(d.absorb_more(bin, rate)).answer(0)
+        self.onward(d.absorb_more(bin, rate))
+            .paid(0, block_count(rate, bin.len()))
     }
 
     pub fn squeeze(self, out: &mut [u8]) -> Answer
@@ -53,7 +56,8 @@ impl Session {
         if number != 0 {
             return self.answer(number);
         }
-        self.onward(d.squeeze_any(out, 0x40)).answer(0)
+        self.onward(d.squeeze_any(out, 0x40))
+            .paid(0, d.squeeze_share(out.len()))
     }
 
     pub fn squeeze_key(self, out: &mut [u8]) -> Answer
@@ -65,7 +69,8 @@ impl Session {
         if number != 0 {
             return self.answer(number);
         }
-        self.onward(d.squeeze_any(out, 0x20)).answer(0)
+        self.onward(d.squeeze_any(out, 0x20))
+            .paid(0, d.squeeze_share(out.len()))
     }
 
     pub fn squeeze_more(self, out: &mut [u8]) -> Answer
@@ -77,6 +82,7 @@ impl Session {
         if number != 0 {
             return self.answer(number);
         }
-        self.onward(d.squeeze_more(out)).answer(0)
+        self.onward(d.squeeze_more(out))
+            .paid(0, block_count(d.squeeze_rate(), out.len()))
     }
 }

@@ -200,7 +200,7 @@ impl Session {
         let d = Duplex::fresh(Mode::Keyed);
         refused
             .onward(d.key_call(key, has_id, i, m, has_counter, counter))
-            .answer(0)
+            .paid(0, d.key_share(key, has_id, i, m, has_counter, counter))
     }
 
     pub fn absorb_key_and_nonce<'a>(
@@ -223,7 +223,7 @@ impl Session {
             return self.answer(number);
         }
         self.onward(d.key_call(key, has_id, i, m, has_counter, counter))
-            .answer(0)
+            .paid(0, d.key_share(key, has_id, i, m, has_counter, counter))
     }
 
     pub fn ratchet(self) -> Answer
@@ -234,7 +234,7 @@ impl Session {
         if number != 0 {
             return self.answer(number);
         }
-        self.onward(d.ratchet()).answer(0)
+        self.onward(d.ratchet()).paid(0, 1)
     }
 
     pub fn encrypt(self, out: &mut [u8], bin: &[u8]) -> Answer
@@ -247,7 +247,8 @@ impl Session {
             return self.short_answer(number, missing(number, out.len(), n));
         }
         copy_into(out, bin);
-        self.encrypt_message(&mut out[..n]).answer(0)
+        self.encrypt_message(&mut out[..n])
+            .paid(0, self.message_share(n))
     }
 
     pub fn decrypt(self, out: &mut [u8], bin: &[u8]) -> Answer
@@ -260,7 +261,8 @@ impl Session {
             return self.short_answer(number, missing(number, out.len(), n));
         }
         copy_into(out, bin);
-        self.decrypt_message(&mut out[..n]).answer(0)
+        self.decrypt_message(&mut out[..n])
+            .paid(0, self.message_share(n))
     }
 
     pub fn encrypt_in_place(self, in_out: &mut [u8]) -> Answer
@@ -271,7 +273,8 @@ impl Session {
         if number != 0 {
             return self.answer(number);
         }
-        self.encrypt_message(in_out).answer(0)
+        self.encrypt_message(in_out)
+            .paid(0, self.message_share(in_out.len()))
     }
 
     pub fn decrypt_in_place(self, in_out: &mut [u8]) -> Answer
@@ -282,6 +285,7 @@ impl Session {
         if number != 0 {
             return self.answer(number);
         }
-        self.decrypt_message(in_out).answer(0)
+        self.decrypt_message(in_out)
+            .paid(0, self.message_share(in_out.len()))
     }
 }

@@ -6,6 +6,7 @@ pub mod feed;
 pub mod hash;
 pub mod keyed;
 pub mod numbers;
+pub mod shares;
 pub mod tag;
 
 ghost use mathlib.Core.Path.{_≡_};
@@ -27,11 +28,12 @@ pub struct Session {
     pub message: Message,
 }
 
-// What a call hands back: the session, 0 or the number of the refusal, and with 3 how many bytes the output lacks.
+// What a call hands back: the session, 0 or the number of the refusal, with 3 how many bytes the output lacks, and the permutations spent.
 pub struct Answer {
     pub session: Session,
     pub number: u8,
     pub missing: usize,
+    pub spent: usize,
 }
 
 // The same with the tag of what was sealed; a refusal has a tag of zeros.
@@ -40,6 +42,7 @@ pub struct Sealed {
     pub number: u8,
     pub missing: usize,
     pub tag: Tag,
+    pub spent: usize,
 }
 
 impl Session {
@@ -56,35 +59,51 @@ impl Session {
         }
     }
 
+    // The answer of a refused call, which spends nothing.
     pub(crate) fn answer(self, number: u8) -> Answer
-        ensures { λ r. ⌜ r ≡ record { session = self; number = number; missing = 0 } ⌝ }
+        ensures { λ r. ⌜ r ≡ record { session = self; number = number; missing = 0; spent = 0 } ⌝ }
     {
         Answer {
             session: self,
             number: number,
             missing: 0,
+            spent: 0,
         }
     }
 
-    // The answer of a call that needs room in an output.
+    // The answer of a call that was carried out: 0, or 4 where a tag differs.
+    pub(crate) fn paid(self, number: u8, spent: usize) -> Answer
+        ensures { λ r. ⌜ r ≡ record { session = self; number = number; missing = 0; spent = spent } ⌝ }
+    {
+        Answer {
+            session: self,
+            number: number,
+            missing: 0,
+            spent: spent,
+        }
+    }
+
+    // The answer of a refused call that needs room in an output.
     pub(crate) fn short_answer(self, number: u8, missing: usize) -> Answer
-        ensures { λ r. ⌜ r ≡ record { session = self; number = number; missing = missing } ⌝ }
+        ensures { λ r. ⌜ r ≡ record { session = self; number = number; missing = missing; spent = 0 } ⌝ }
     {
         Answer {
             session: self,
             number: number,
             missing: missing,
+            spent: 0,
         }
     }
 
-    pub(crate) fn sealed(self, number: u8, missing: usize, tag: Tag) -> Sealed
-        ensures { λ r. ⌜ r ≡ record { session = self; number = number; missing = missing; tag = tag } ⌝ }
+    pub(crate) fn sealed(self, number: u8, missing: usize, tag: Tag, spent: usize) -> Sealed
+        ensures { λ r. ⌜ r ≡ record { session = self; number = number; missing = missing; tag = tag; spent = spent } ⌝ }
     {
         Sealed {
             session: self,
             number: number,
             missing: missing,
             tag: tag,
+            spent: spent,
         }
     }
 }

@@ -10,7 +10,8 @@ use native.Mathlib.Nat.{le-refl}
 use borrow.Author.Needs.{needs}
 use Rattle.xoodyak.specs.declared.Session.{Session}
 use Rattle.xoodyak.specs.Numbers.{first, keyedNumber, roomNumber, tailNumber}
-use Rattle.xoodyak.specs.Calls.{Outcome, answerOf, verdict, openOf}
+use Rattle.xoodyak.specs.Calls.{Outcome, answerOf, verdict, openOf, openUps}
+use Rattle.xoodyak.proofs.Costs.{open-cost}
 use Rattle.xoodyak.proofs.Settle.{room-fits, before-room}
 use Rattle.xoodyak.proofs.Sealing.{long, earlier, later, open-refused, relaid, zeroed-whole, open-copy, same, differs}
 use Rattle.xoodyak.proofs.Session.aead_decrypt.Statement.{statement}
@@ -91,7 +92,7 @@ asked g = copied g .before .before .before .before .before .before
 abbrev left : tie.After-same-bytes → List ℕ
 left g = decrypted g .decrypt-message .last .1 .0 ++ drop (N (asked g)) (copied g .copy-into .last .0)
 
-outcome : (g : tie.After-same-bytes) → verdict (g .same-bytes .result) (squeezed g .squeeze-tag .result) (left g) (replicate (length (O (asked g))) 0) ≡ openOf (S (asked g)) (O (asked g)) (I (asked g))
+outcome : (g : tie.After-same-bytes) → verdict (g .same-bytes .result) (squeezed g .squeeze-tag .result) (left g) (replicate (length (O (asked g))) 0) (openUps (S (asked g)) (take (N (asked g)) (copied g .copy-into .last .0))) ≡ openOf (S (asked g)) (O (asked g)) (I (asked g))
 outcome g = let d = asked g in
     let t = squeezed g .squeeze-tag in
     let f = decrypted g .decrypt-message in
@@ -100,8 +101,9 @@ outcome g = let d = asked g in
     open-copy (S d) (f .result) (t .result) (take (N d) (w .last .0)) (f .last .1 .0) (t .last .1 .0) _ (g .same-bytes .result) (f .ensures .0) (f .ensures .1) (t .ensures .0) (t .ensures .1) (g .same-bytes .ensures) _ (copied g .before .before .before .if2 .left) (O d) (I d) (w .last .0) h (number (copied g .before .before .before .before)) (w .ensures) refl (take-all (length (I d) - N d) (drop (N d) (I d)) (rw length-drop (le-refl _)))
 
 returns-3 : tie.Need-returns-3
-returns-3 c = let e = same _ _ _ _ _ (c .before .if3 .taken) (outcome (c .before .before)) in
-    (c .answer2 .ensures ∙ ap answerOf e, ap (λ (x : Outcome). x .bytes) e)
+returns-3 c = let g = c .before .before .before in
+    let e = same _ _ _ _ _ _ (c .before .before .if3 .taken) (outcome g) in
+    (c .paid .ensures ∙ rw (open-cost (S (asked g)) (take (N (asked g)) (copied g .copy-into .last .0)) _ _ (sym (length-take-le _ (copied g .copy-into .last .0) (omega (arith, copied g .copy-into .kept .0, room (copied g .before .before .before))))) (c .before .seal-share .ensures)) (ap answerOf e), ap (λ (x : Outcome). x .bytes) e)
 
 -- what the buffer then holds is as long as the output
 whole : (g : tie.After-same-bytes) → length (left g) ≡ length (O (asked g))
@@ -114,18 +116,18 @@ slice-aggregate-clear : tie.Need-slice-aggregate-clear
 slice-aggregate-clear c = let l = whole (c .before .before) in sym (length-take-le _ (left (c .before .before)) (omega arith))
 
 same-length : tie.Need-same-length
-same-length c = whole (c .before .before)
+same-length c = whole (c .before .before .before)
 
 same-length-2 : tie.Need-same-length-2
-same-length-2 c = let g = c .before .before .before .before .before .before in
-    let k = c .before .before .before .clear in
+same-length-2 c = let g = c .before .before .before .before .before .before .before in
+    let k = c .before .before .before .before .clear in
     ap length (zeroed-whole _ (left g) (k .last .0) (whole g) (k .ensures)) ∙ simp length-replicate refl
 
 returns-4 : tie.Need-returns-4
-returns-4 c = let g = c .before .before .before .before .before .before in
-    let e = differs _ _ _ _ _ (c .before .before .before .before .before .if3 .left) (outcome g) in
-    let k = c .before .before .before .clear in
-    (c .answer3 .ensures ∙ ap answerOf e, zeroed-whole _ (left g) (k .last .0) (whole g) (k .ensures) ∙ ap (λ (x : Outcome). x .bytes) e)
+returns-4 c = let g = c .before .before .before .before .before .before .before in
+    let e = differs _ _ _ _ _ _ (c .before .before .before .before .before .before .if3 .left) (outcome g) in
+    let k = c .before .before .before .before .clear in
+    (c .paid2 .ensures ∙ rw (open-cost (S (asked g)) (take (N (asked g)) (copied g .copy-into .last .0)) _ _ (sym (length-take-le _ (copied g .copy-into .last .0) (omega (arith, copied g .copy-into .kept .0, room (copied g .before .before .before))))) (c .before .seal-share2 .ensures)) (ap answerOf e), zeroed-whole _ (left g) (k .last .0) (whole g) (k .ensures) ∙ ap (λ (x : Outcome). x .bytes) e)
 
 pub aead-decrypt-spec : {M : Type 1} → statement M
 aead-decrypt-spec =
@@ -154,10 +156,12 @@ aead-decrypt-spec =
     (λ c. search needs)
     same-bytes-requires
     (λ c κs. search needs)
+    (λ c κs. search needs)
     same-length
     returns-3
     slice-relend-prefix-clear
     slice-aggregate-clear
+    (λ c κs. search needs)
     (λ c κs. search needs)
     (λ c κs. search needs)
     same-length-2

@@ -10,8 +10,9 @@ use borrow.Author.Needs.{needs}
 use Rattle.xoodyak.specs.declared.Session.{Session}
 use Rattle.xoodyak.specs.Cyclist.{given}
 use Rattle.xoodyak.specs.Numbers.{first, keyedNumber, roomNumber}
-use Rattle.xoodyak.specs.Calls.{Outcome, answerOf, verdict, openDetachedOf}
-use Rattle.xoodyak.proofs.Settle.{room-refused}
+use Rattle.xoodyak.specs.Calls.{Outcome, answerOf, verdict, openDetachedOf, openUps}
+use Rattle.xoodyak.proofs.Costs.{open-cost}
+use Rattle.xoodyak.proofs.Settle.{room-refused, copied-front}
 use Rattle.xoodyak.proofs.Sealing.{fits, relaid, open-detached, same, differs}
 use Rattle.xoodyak.proofs.Session.aead_decrypt_detached.Statement.{statement}
 use Rattle.xoodyak.proofs.Session.aead_decrypt_detached.Tie as tie
@@ -77,7 +78,7 @@ asked g = copied g .before .before .before
 abbrev left : tie.After-same-bytes → List ℕ
 left g = decrypted g .decrypt-message .last .1 .0 ++ drop (length (M (asked g))) (copied g .copy-into .last .0)
 
-outcome : (g : tie.After-same-bytes) → verdict (g .same-bytes .result) (squeezed g .squeeze-tag .result) (left g) (replicate (length (O (asked g))) 0) ≡ openDetachedOf (S (asked g)) (O (asked g)) (asked g .before .before .before .before .before .before .args .tag) (given (asked g .before .before .before .before .before .before .args .has-bin) (now (asked g .before .before .before .before .before .before .args .bin)))
+outcome : (g : tie.After-same-bytes) → verdict (g .same-bytes .result) (squeezed g .squeeze-tag .result) (left g) (replicate (length (O (asked g))) 0) (openUps (S (asked g)) (take (length (M (asked g))) (copied g .copy-into .last .0))) ≡ openDetachedOf (S (asked g)) (O (asked g)) (asked g .before .before .before .before .before .before .args .tag) (given (asked g .before .before .before .before .before .before .args .has-bin) (now (asked g .before .before .before .before .before .before .args .bin)))
 outcome g = let d = asked g in
     let t = squeezed g .squeeze-tag in
     let f = decrypted g .decrypt-message in
@@ -91,20 +92,21 @@ kept : (g : tie.After-same-bytes) → length (left g) ≡ length (O (asked g))
 kept g = relaid (length (M (asked g))) (decrypted g .decrypt-message .last .1 .0) (copied g .copy-into .last .0) (O (asked g)) (room (copied g .before .before)) (decrypted g .decrypt-message .kept .1 .0) (copied g .copy-into .kept .0)
 
 same-length : tie.Need-same-length
-same-length c = kept (c .before .before)
+same-length c = kept (c .before .before .before)
 
 returns-2 : tie.Need-returns-2
-returns-2 c = let e = same _ _ _ _ _ (c .before .if2 .taken) (outcome (c .before .before)) in
-    (c .answer .ensures ∙ ap answerOf e, ap (λ (x : Outcome). x .bytes) e)
+returns-2 c = let g = c .before .before .before in
+    let e = same _ _ _ _ _ _ (c .before .before .if2 .taken) (outcome g) in
+    (c .paid .ensures ∙ rw (open-cost (S (asked g)) (take (length (M (asked g))) (copied g .copy-into .last .0)) _ _ (sym (ap length (copied-front (M (asked g)) (O (asked g)) (copied g .copy-into .last .0) (copied g .copy-into .ensures)))) (c .before .seal-share .ensures)) (ap answerOf e), ap (λ (x : Outcome). x .bytes) e)
 
 same-length-2 : tie.Need-same-length-2
-same-length-2 c = c .before .before .before .clear .kept .0 ∙ kept (c .before .before .before .before .before .before)
+same-length-2 c = c .before .before .before .before .clear .kept .0 ∙ kept (c .before .before .before .before .before .before .before)
 
 returns-3 : tie.Need-returns-3
-returns-3 c = let g = c .before .before .before .before .before .before in
-    let e = differs _ _ _ _ _ (c .before .before .before .before .before .if2 .left) (outcome g) in
-    let k = c .before .before .before .clear in
-    (c .answer2 .ensures ∙ ap answerOf e, k .ensures ∙ ap (λ (i : ℕ). replicate i 0) (kept g) ∙ ap (λ (x : Outcome). x .bytes) e)
+returns-3 c = let g = c .before .before .before .before .before .before .before in
+    let e = differs _ _ _ _ _ _ (c .before .before .before .before .before .before .if2 .left) (outcome g) in
+    let k = c .before .before .before .before .clear in
+    (c .paid2 .ensures ∙ rw (open-cost (S (asked g)) (take (length (M (asked g))) (copied g .copy-into .last .0)) _ _ (sym (ap length (copied-front (M (asked g)) (O (asked g)) (copied g .copy-into .last .0) (copied g .copy-into .ensures)))) (c .before .seal-share2 .ensures)) (ap answerOf e), k .ensures ∙ ap (λ (i : ℕ). replicate i 0) (kept g) ∙ ap (λ (x : Outcome). x .bytes) e)
 
 pub aead-decrypt-detached-spec : {M : Type 1} → statement M
 aead-decrypt-detached-spec =
@@ -127,8 +129,10 @@ aead-decrypt-detached-spec =
     slice-aggregate-same-bytes-2
     same-bytes-requires
     (λ c κs. search needs)
+    (λ c κs. search needs)
     same-length
     returns-2
+    (λ c κs. search needs)
     (λ c κs. search needs)
     (λ c κs. search needs)
     same-length-2

@@ -10,7 +10,8 @@ use borrow.Author.Needs.{needs}
 use Rattle.xoodyak.specs.declared.Session.{Session}
 use Rattle.xoodyak.specs.Numbers.{first, keyedNumber, tailNumber}
 use Rattle.laws.proofs.Lists.{tail-of}
-use Rattle.xoodyak.specs.Calls.{Outcome, answerOf, verdict, openInPlaceOf}
+use Rattle.xoodyak.specs.Calls.{Outcome, answerOf, verdict, openInPlaceOf, openUps}
+use Rattle.xoodyak.proofs.Costs.{open-cost}
 use Rattle.xoodyak.proofs.Settle.{call-refused}
 use Rattle.xoodyak.proofs.Sealing.{long, zeroed, open-in-place, same, differs}
 use Rattle.xoodyak.proofs.Session.aead_decrypt_in_place.Statement.{statement}
@@ -64,15 +65,16 @@ asked g = decrypted g .before .before .before
 abbrev N : tie.After-same-bytes → ℕ
 N g = length (O (asked g)) - 16
 
-outcome : (g : tie.After-same-bytes) → verdict (g .same-bytes .result) (squeezed g .squeeze-tag .result) (decrypted g .decrypt-message .last .1 .0 ++ drop (N g) (O (asked g))) (replicate (N g) 0 ++ drop (N g) (O (asked g))) ≡ openInPlaceOf (S (asked g)) (O (asked g))
+outcome : (g : tie.After-same-bytes) → verdict (g .same-bytes .result) (squeezed g .squeeze-tag .result) (decrypted g .decrypt-message .last .1 .0 ++ drop (N g) (O (asked g))) (replicate (N g) 0 ++ drop (N g) (O (asked g))) (openUps (S (asked g)) (take (N g) (O (asked g)))) ≡ openInPlaceOf (S (asked g)) (O (asked g))
 outcome g = let d = asked g in
     let t = squeezed g .squeeze-tag in
     let f = decrypted g .decrypt-message in
     open-in-place (S d) (f .result) (t .result) (take (N g) (O d)) (f .last .1 .0) (t .last .1 .0) _ (g .same-bytes .result) (f .ensures .0) (f .ensures .1) (t .ensures .0) (t .ensures .1) (g .same-bytes .ensures) _ (decrypted g .before .before .if1 .left) (O d) (number d) refl (tail-of (N g) (f .last .1 .0) (O d) (front (decrypted g)))
 
 returns-2 : tie.Need-returns-2
-returns-2 c = let e = same _ _ _ _ _ (c .before .if2 .taken) (outcome (c .before .before)) in
-    (c .answer2 .ensures ∙ ap answerOf e, ap (λ (x : Outcome). x .bytes) e)
+returns-2 c = let g = c .before .before .before in
+    let e = same _ _ _ _ _ _ (c .before .before .if2 .taken) (outcome g) in
+    (c .paid .ensures ∙ rw (open-cost (S (asked g)) (take (N g) (O (asked g))) _ _ (sym (length-take-le _ (O (asked g)) (omega arith))) (c .before .seal-share .ensures)) (ap answerOf e), ap (λ (x : Outcome). x .bytes) e)
 
 slice-aggregate-clear : tie.Need-slice-aggregate-clear
 slice-aggregate-clear c = let g = c .before .before in
@@ -80,10 +82,10 @@ slice-aggregate-clear c = let g = c .before .before in
     sym (length-take-le _ _ (simp (length-append, length-drop) (omega arith)))
 
 returns-3 : tie.Need-returns-3
-returns-3 c = let g = c .before .before .before .before .before .before in
-    let e = differs _ _ _ _ _ (c .before .before .before .before .before .if2 .left) (outcome g) in
-    let k = c .before .before .before .clear in
-    (c .answer3 .ensures ∙ ap answerOf e, zeroed (N g) (decrypted g .decrypt-message .last .1 .0) (O (asked g)) (k .last .0) (front (decrypted g)) (k .ensures) ∙ ap (λ (x : Outcome). x .bytes) e)
+returns-3 c = let g = c .before .before .before .before .before .before .before in
+    let e = differs _ _ _ _ _ _ (c .before .before .before .before .before .before .if2 .left) (outcome g) in
+    let k = c .before .before .before .before .clear in
+    (c .paid2 .ensures ∙ rw (open-cost (S (asked g)) (take (N g) (O (asked g))) _ _ (sym (length-take-le _ (O (asked g)) (omega arith))) (c .before .seal-share2 .ensures)) (ap answerOf e), zeroed (N g) (decrypted g .decrypt-message .last .1 .0) (O (asked g)) (k .last .0) (front (decrypted g)) (k .ensures) ∙ ap (λ (x : Outcome). x .bytes) e)
 
 pub aead-decrypt-in-place-spec : {M : Type 1} → statement M
 aead-decrypt-in-place-spec =
@@ -106,10 +108,12 @@ aead-decrypt-in-place-spec =
     (λ c. search needs)
     same-bytes-requires
     (λ c κs. search needs)
+    (λ c κs. search needs)
     (λ c. search needs)
     returns-2
     (λ c. search needs)
     slice-aggregate-clear
+    (λ c κs. search needs)
     (λ c κs. search needs)
     (λ c κs. search needs)
     (λ c. search needs)

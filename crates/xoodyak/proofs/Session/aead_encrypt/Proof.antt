@@ -10,6 +10,7 @@ use borrow.Author.Needs.{needs}
 use Rattle.xoodyak.specs.declared.Session.{Session}
 use Rattle.xoodyak.specs.Numbers.{first, keyedNumber, roomNumber}
 use Rattle.xoodyak.specs.Calls.{Outcome, answerOf, taken, sealOf}
+use Rattle.xoodyak.proofs.Costs.{seal-cost}
 use Rattle.xoodyak.proofs.Settle.{room-refused, copied-front}
 use Rattle.xoodyak.proofs.Sealing.{fits, seal-copy}
 use Rattle.xoodyak.proofs.Session.aead_encrypt.Statement.{statement}
@@ -65,7 +66,7 @@ squeeze-tag-requires c κs = let q = c .before .before .before in
     simp (length-take, length-drop, length-append) (omega (arith, r .copy-into .kept .0))
 
 returns-2 : tie.Need-returns-2
-returns-2 c = let p = c .before .before .before in
+returns-2 c = let p = c .before .before .before .before in
     let q = p .before .before .before .before in
     let r = q .before .before .before .before in
     let d = r .before .before .before in
@@ -74,7 +75,7 @@ returns-2 c = let p = c .before .before .before in
     let w = r .copy-into in
     let e = seal-copy (S d) (f .result) (t .result) (take (length (M d)) (w .last .0)) (f .last .1 .0) (t .last .1 .0) (f .ensures .0) (f .ensures .1) (t .ensures .0) (t .ensures .1) _ (r .before .before .if1 .left) (O d) (M d) (w .last .0) (number d) (w .ensures) refl (front q)
     ∙ ap (sealOf (S d) (O d)) (d .before .before .before .or-empty .ensures) in
-    (c .answer .ensures ∙ ap answerOf e, ap (λ (x : Outcome). x .bytes) e)
+    (c .paid .ensures ∙ rw (seal-cost (S d) (take (length (M d)) (w .last .0)) _ _ (sym (ap length (copied-front (M d) (O d) (w .last .0) (w .ensures)))) (c .before .seal-share .ensures)) (ap answerOf e), ap (λ (x : Outcome). x .bytes) e)
 
 pub aead-encrypt-spec : {M : Type 1} → statement M
 aead-encrypt-spec =
@@ -96,6 +97,7 @@ aead-encrypt-spec =
     (λ c. search needs)
     part-squeeze-tag-end
     squeeze-tag-requires
+    (λ c κs. search needs)
     (λ c κs. search needs)
     (λ c. search needs)
     returns-2)

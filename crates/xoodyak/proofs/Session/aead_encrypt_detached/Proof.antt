@@ -10,8 +10,9 @@ use borrow.Author.Needs.{needs}
 use Rattle.xoodyak.specs.declared.Session.{Session}
 use Rattle.xoodyak.specs.Numbers.{first, keyedNumber, roomNumber}
 use Rattle.xoodyak.specs.Calls.{Outcome, sealedOf, sealDetachedOf}
-use Rattle.xoodyak.proofs.Settle.{room-refused}
-use Rattle.xoodyak.proofs.Sealing.{fits, seal-detached}
+use Rattle.xoodyak.proofs.Costs.{seal-cost}
+use Rattle.xoodyak.proofs.Settle.{room-refused, copied-front}
+use Rattle.xoodyak.proofs.Sealing.{fits, relaid, seal-detached}
 use Rattle.xoodyak.proofs.Session.aead_encrypt_detached.Statement.{statement}
 use Rattle.xoodyak.proofs.Session.aead_encrypt_detached.Tie as tie
 
@@ -49,8 +50,14 @@ slice-aggregate-encrypt-message c = let w = c .before .before .before in
     let h = room (w .before .before) in
     sym (length-take-le _ (w .copy-into .last .0) (omega (arith, w .copy-into .kept .0)))
 
+same-length : tie.Need-same-length
+same-length c = let q = c .before .before .before .before .before .before .before .before in
+    let r = q .before .before .before .before in
+    let d = r .before .before .before in
+    relaid (length (M d)) (q .encrypt-message .last .1 .0) (r .copy-into .last .0) (O d) (room (r .before .before)) (q .encrypt-message .kept .1 .0) (r .copy-into .kept .0)
+
 returns-2 : tie.Need-returns-2
-returns-2 c = let p = c .before .before .before in
+returns-2 c = let p = c .before .before .before .before in
     let q = p .before .before .before .before in
     let r = q .before .before .before .before in
     let d = r .before .before .before in
@@ -59,7 +66,7 @@ returns-2 c = let p = c .before .before .before in
     let w = r .copy-into in
     let e = seal-detached (S d) (f .result) (t .result) (take (length (M d)) (w .last .0)) (f .last .1 .0) (t .last .1 .0) (f .ensures .0) (f .ensures .1) (t .ensures .0) (t .ensures .1) _ (r .before .before .if1 .left) (O d) (M d) (w .last .0) (number d) (w .ensures) refl
     ∙ ap (sealDetachedOf (S d) (O d)) (d .before .before .before .or-empty .ensures) in
-    (c .sealed2 .ensures ∙ rw (c .before .from-bytes2 .ensures) (ap sealedOf e), ap (λ (x : Outcome). x .bytes) e)
+    (c .sealed2 .ensures ∙ rw (c .before .before .from-bytes2 .ensures, seal-cost (S d) (take (length (M d)) (w .last .0)) _ _ (sym (ap length (copied-front (M d) (O d) (w .last .0) (w .ensures)))) (c .before .seal-share .ensures)) (ap sealedOf e), ap (λ (x : Outcome). x .bytes) e)
 
 pub aead-encrypt-detached-spec : {M : Type 1} → statement M
 aead-encrypt-detached-spec =
@@ -81,5 +88,6 @@ aead-encrypt-detached-spec =
     (λ c κs. search needs)
     (λ c κs. search needs)
     (λ c κs. search needs)
-    (λ c. search needs)
+    (λ c κs. search needs)
+    same-length
     returns-2)

@@ -10,6 +10,7 @@ use borrow.Author.Needs.{needs}
 use Rattle.xoodyak.specs.declared.Session.{Session}
 use Rattle.xoodyak.specs.Numbers.{first, keyedNumber, tailNumber}
 use Rattle.xoodyak.specs.Calls.{Outcome, answerOf, sealInPlaceOf}
+use Rattle.xoodyak.proofs.Costs.{seal-cost}
 use Rattle.xoodyak.proofs.Settle.{call-refused}
 use Rattle.xoodyak.proofs.Sealing.{long, seal-in-place}
 use Rattle.xoodyak.proofs.Session.aead_encrypt_in_place.Statement.{statement}
@@ -51,13 +52,13 @@ squeeze-tag-requires c κs = let q = c .before .before .before in
     simp (length-take, length-drop, length-append) (omega arith)
 
 returns-2 : tie.Need-returns-2
-returns-2 c = let p = c .before .before .before in
+returns-2 c = let p = c .before .before .before .before in
     let q = p .before .before .before .before in
     let d = q .before .before .before in
     let t = p .squeeze-tag in
     let f = q .encrypt-message in
     let e = seal-in-place (S d) (f .result) (t .result) (take (length (O d) - 16) (O d)) (f .last .1 .0) (t .last .1 .0) (f .ensures .0) (f .ensures .1) (t .ensures .0) (t .ensures .1) _ (q .before .before .if1 .left) (O d) (number d) refl (front q) in
-    (c .answer2 .ensures ∙ ap answerOf e, ap (λ (x : Outcome). x .bytes) e)
+    (c .paid .ensures ∙ rw (seal-cost (S d) (take (length (O d) - 16) (O d)) _ _ (sym (length-take-le _ (O d) (omega arith))) (c .before .seal-share .ensures)) (ap answerOf e), ap (λ (x : Outcome). x .bytes) e)
 
 pub aead-encrypt-in-place-spec : {M : Type 1} → statement M
 aead-encrypt-in-place-spec =
@@ -76,6 +77,7 @@ aead-encrypt-in-place-spec =
     (λ c. search needs)
     (λ c. search needs)
     squeeze-tag-requires
+    (λ c κs. search needs)
     (λ c κs. search needs)
     (λ c. search needs)
     returns-2)

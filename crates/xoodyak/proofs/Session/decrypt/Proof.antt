@@ -1,5 +1,5 @@
 -- Refused with nothing touched; otherwise the message is copied to the front of the output and decrypted there, and what lies past it stays.
-use mathlib.Core.Path.{_≡_, sym, ap, _∙_}
+use mathlib.Core.Path.{_≡_, refl, sym, ap, _∙_}
 use Prim.Native.Nat.{_≤_}
 use native.Mathlib.Omega.{arith}
 use denote.Ref.{now}
@@ -7,6 +7,7 @@ use lib.ListN.{length}
 use lib.Seq.{length-take-le}
 use Rattle.xoodyak.specs.Numbers.{first, keyedNumber, roomNumber}
 use Rattle.xoodyak.specs.Calls.{Outcome, answerOf, decryptOf}
+use Rattle.xoodyak.proofs.Costs.{decrypt-cost}
 use Rattle.xoodyak.proofs.Settle.{call-taken, room-refused, second-zero, room-fits, copied-front, copied-rest}
 use borrow.Author.Needs.{needs}
 use Rattle.xoodyak.proofs.Session.decrypt.Statement.{statement}
@@ -41,15 +42,15 @@ slice-aggregate-decrypt-message c =
 returns-2 : tie.Need-returns-2
 unfolding decryptOf
 returns-2 c =
-    let a = c .before .before .before .before .before .before .before .before .before .before .before .before .before .before .before .args in
+    let a = c .before .before .before .before .before .before .before .before .before .before .before .before .before .before .before .before .args in
     let m = now (a .bin) in
     let o = now (a .out) in
-    let w = c .before .before .before .before .before .before .before .copy-into in
-    let f = c .before .before .before .decrypt-message in
+    let w = c .before .before .before .before .before .before .before .before .copy-into in
+    let f = c .before .before .before .before .decrypt-message in
     let front = copied-front m o (w .last .0) (w .ensures) in
-    call-taken _ _ (number (c .before .before .before .before .before .before .before .before .before .before)) _ _ _ _ answerOf _ _ (c .before .before .before .before .before .before .before .before .before .if1 .left)
-    (rw (c .answer .ensures, f .ensures .0, front))
+    call-taken _ _ (number (c .before .before .before .before .before .before .before .before .before .before .before)) _ _ _ _ answerOf _ _ (c .before .before .before .before .before .before .before .before .before .before .if1 .left)
+    (rw (c .paid .ensures, f .ensures .0, front, decrypt-cost (a .self) m _ _ refl (c .before .message-share .ensures)))
     (rw (f .ensures .1, front, copied-rest m o (w .last .0) (w .ensures)))
 
 pub decrypt-spec : {M : Type 1} → statement M
-decrypt-spec = tie.close (tie.spec (λ c κs. search needs) (λ c κs. search needs) (λ c κs. search needs) (λ c κs. search needs) (λ c κs. search needs) returns copy-into-requires slice-relend-prefix-decrypt-message slice-aggregate-decrypt-message (λ c κs. search needs) (λ c κs. search needs) (λ c. search needs) returns-2)
+decrypt-spec = tie.close (tie.spec (λ c κs. search needs) (λ c κs. search needs) (λ c κs. search needs) (λ c κs. search needs) (λ c κs. search needs) returns copy-into-requires slice-relend-prefix-decrypt-message slice-aggregate-decrypt-message (λ c κs. search needs) (λ c κs. search needs) (λ c κs. search needs) (λ c. search needs) returns-2)

@@ -1,5 +1,5 @@
 -- Refused with nothing touched; otherwise the message is copied to the front of the output and encrypted there, and what lies past it stays.
-use mathlib.Core.Path.{_≡_, sym, ap, _∙_}
+use mathlib.Core.Path.{_≡_, refl, sym, ap, _∙_}
 use Prim.Native.Nat.{_≤_}
 use native.Mathlib.Omega.{arith}
 use denote.Ref.{now}
@@ -7,6 +7,7 @@ use lib.ListN.{length}
 use lib.Seq.{length-take-le}
 use Rattle.xoodyak.specs.Numbers.{first, keyedNumber, roomNumber}
 use Rattle.xoodyak.specs.Calls.{Outcome, answerOf, encryptOf}
+use Rattle.xoodyak.proofs.Costs.{encrypt-cost}
 use Rattle.xoodyak.proofs.Settle.{call-taken, room-refused, second-zero, room-fits, copied-front, copied-rest}
 use borrow.Author.Needs.{needs}
 use Rattle.xoodyak.proofs.Session.encrypt.Statement.{statement}
@@ -41,15 +42,15 @@ slice-aggregate-encrypt-message c =
 returns-2 : tie.Need-returns-2
 unfolding encryptOf
 returns-2 c =
-    let a = c .before .before .before .before .before .before .before .before .before .before .before .before .before .before .before .args in
+    let a = c .before .before .before .before .before .before .before .before .before .before .before .before .before .before .before .before .args in
     let m = now (a .bin) in
     let o = now (a .out) in
-    let w = c .before .before .before .before .before .before .before .copy-into in
-    let f = c .before .before .before .encrypt-message in
+    let w = c .before .before .before .before .before .before .before .before .copy-into in
+    let f = c .before .before .before .before .encrypt-message in
     let front = copied-front m o (w .last .0) (w .ensures) in
-    call-taken _ _ (number (c .before .before .before .before .before .before .before .before .before .before)) _ _ _ _ answerOf _ _ (c .before .before .before .before .before .before .before .before .before .if1 .left)
-    (rw (c .answer .ensures, f .ensures .0, front))
+    call-taken _ _ (number (c .before .before .before .before .before .before .before .before .before .before .before)) _ _ _ _ answerOf _ _ (c .before .before .before .before .before .before .before .before .before .before .if1 .left)
+    (rw (c .paid .ensures, f .ensures .0, front, encrypt-cost (a .self) m _ _ refl (c .before .message-share .ensures)))
     (rw (f .ensures .1, front, copied-rest m o (w .last .0) (w .ensures)))
 
 pub encrypt-spec : {M : Type 1} → statement M
-encrypt-spec = tie.close (tie.spec (λ c κs. search needs) (λ c κs. search needs) (λ c κs. search needs) (λ c κs. search needs) (λ c κs. search needs) returns copy-into-requires slice-relend-prefix-encrypt-message slice-aggregate-encrypt-message (λ c κs. search needs) (λ c κs. search needs) (λ c. search needs) returns-2)
+encrypt-spec = tie.close (tie.spec (λ c κs. search needs) (λ c κs. search needs) (λ c κs. search needs) (λ c κs. search needs) (λ c κs. search needs) returns copy-into-requires slice-relend-prefix-encrypt-message slice-aggregate-encrypt-message (λ c κs. search needs) (λ c κs. search needs) (λ c κs. search needs) (λ c. search needs) returns-2)

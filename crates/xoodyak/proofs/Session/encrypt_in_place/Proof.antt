@@ -1,6 +1,8 @@
 -- Refused in Hash with nothing touched; in Keyed the whole buffer is the message.
+use denote.Ref.{now}
 use Rattle.xoodyak.specs.Calls.{answerOf, encryptInPlaceOf}
 use Rattle.xoodyak.proofs.Settle.{call-taken, call-refused}
+use Rattle.xoodyak.proofs.Costs.{encrypt-cost}
 use borrow.Author.Needs.{needs}
 use Rattle.xoodyak.proofs.Session.encrypt_in_place.Statement.{statement}
 use Rattle.xoodyak.proofs.Session.encrypt_in_place.Tie as tie
@@ -11,9 +13,10 @@ returns c = call-refused _ _ (c .before .before .keyed-number .ensures) _ _ _ _ 
 
 returns-2 : tie.Need-returns-2
 unfolding encryptInPlaceOf
-returns-2 c = let f = c .before .before .before .encrypt-message in
-    call-taken _ _ (c .before .before .before .before .before .before .keyed-number .ensures) _ _ _ _ answerOf _ _ (c .before .before .before .before .before .if1 .left)
-    (rw (c .answer2 .ensures, f .ensures .0)) (f .ensures .1)
+returns-2 c = let f = c .before .before .before .before .encrypt-message in
+    let e = c .before .before .before .before .before .before in
+    call-taken _ _ (e .before .keyed-number .ensures) _ _ _ _ answerOf _ _ (e .if1 .left)
+    (rw (c .paid .ensures, f .ensures .0, encrypt-cost (e .before .before .before .args .self) (now (e .before .before .before .args .in-out)) _ _ (f .kept .1 .0) (c .before .message-share .ensures))) (f .ensures .1)
 
 pub encrypt-in-place-spec : {M : Type 1} → statement M
-encrypt-in-place-spec = tie.close (tie.spec (λ c κs. search needs) (λ c κs. search needs) returns (λ c κs. search needs) (λ c κs. search needs) (λ c. search needs) returns-2)
+encrypt-in-place-spec = tie.close (tie.spec (λ c κs. search needs) (λ c κs. search needs) returns (λ c κs. search needs) (λ c κs. search needs) (λ c κs. search needs) (λ c. search needs) returns-2)
