@@ -4,15 +4,13 @@ pub mod session;
 ghost use mathlib.Core.Path.{_≡_};
 ghost use Rattle.xoodoo.specs.Xoodoo as x;
 use xoodoo::Xoodoo;
+use xoodoo::words::permute_bytes;
 
 #[no_mangle]
 pub extern "C" fn lafomeihu_xoodoo_permute(st: &mut [u8; 48])
     ensures { λ _. ⌜ now (st .exit) ≡ x.xoodoo (now (st .entry)) ⌝ }
 {
-    let b = *st;
-    let after = Xoodoo::from_bytes(b).permute();
-    let out = after.st;
-    *st = out;
+    permute_bytes(st);
 }
 
 #[no_mangle]

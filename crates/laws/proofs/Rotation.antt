@@ -7,9 +7,9 @@ use native.Mathlib.Numerals.{one-add, add-one}
 use native.Mathlib.Omega.{arith}
 use lib.Arith.{digits-lt, digits-div, digits-mod}
 use lib.Pow.{pow-pos, pow-add, shl-shr, shr-lt, shr-shr, mod-pow-add}
-use lib.Bits.{bitOr, bitXor, or-shifted, xor-block, xor-mod, xor-shr, xor-shifted}
-use Rattle.laws.specs.Words.{_⊕_, rotl}
-use Rattle.laws.proofs.Words.{xor-sum, ⊕-lt}
+use lib.Bits.{bitOr, bitXor, and-block, or-shifted, xor-block, xor-mod, xor-shr, xor-shifted}
+use Rattle.laws.specs.Words.{_⊕_, _⊙_, rotl}
+use Rattle.laws.proofs.Words.{xor-sum, ⊕-lt, ⊙-lt}
 
 -- the j low digits come first, and then the k high ones
 part : ℕ → ℕ → ℕ → ℕ
@@ -87,6 +87,31 @@ unfolding turn _⊕_
 turn-digits b x hb hx =
     ap₂ (λ (n m : ℕ). bitXor (n * 2) m) (digits-mod b hx) (digits-div b hx) ∙ xor-shifted x 1 b hb
 
+-- ---- through and, of words of 32 bits: the top digit and the others apart
+block-⊙ : (k a b r s : ℕ) → r < 2 ^ k → s < 2 ^ k → (a * 2 ^ k + r) ⊙ (b * 2 ^ k + s) ≡ (a ⊙ b) * 2 ^ k + (r ⊙ s)
+unfolding _⊙_
+block-⊙ = and-block
+
+turn-blocks : (a b x y : ℕ) → a < 2 → b < 2 → x < 2 ^ 31 → y < 2 ^ 31
+    → turn ((a * 2 ^ 31 + x) ⊙ (b * 2 ^ 31 + y)) ≡ turn (a * 2 ^ 31 + x) ⊙ turn (b * 2 ^ 31 + y)
+turn-blocks a b x y ha hb hx hy =
+    ap turn (block-⊙ 31 a b x y hx hy) ∙ turn-digits (a ⊙ b) (x ⊙ y) (⊙-lt 1 ha hb) (⊙-lt 31 hx hy)
+    ∙ sym (ap₂ _⊙_ (turn-digits a x ha hx) (turn-digits b y hb hy) ∙ block-⊙ 1 x y a b ha hb)
+
+turn-⊙ : (a b : ℕ) → a < 2 ^ 32 → b < 2 ^ 32 → turn (a ⊙ b) ≡ turn a ⊙ turn b
+turn-⊙ a b ha hb =
+    let da : a / 2 ^ 31 * 2 ^ 31 + a % 2 ^ 31 ≡ a = omega arith in
+    let db : b / 2 ^ 31 * 2 ^ 31 + b % 2 ^ 31 ≡ b = omega arith in
+    ap₂ (λ (x y : ℕ). turn (x ⊙ y)) (sym da) (sym db)
+    ∙ turn-blocks (a / 2 ^ 31) (b / 2 ^ 31) (a % 2 ^ 31) (b % 2 ^ 31) (omega arith) (omega arith) (mod-lt a (pow-pos 31)) (mod-lt b (pow-pos 31))
+    ∙ ap₂ (λ (x y : ℕ). turn x ⊙ turn y) da db
+
+pub rot-⊙ : (k a b : ℕ) → a < 2 ^ 32 → b < 2 ^ 32 → rot k (a ⊙ b) ≡ rot k a ⊙ rot k b
+unfolding rot
+rot-⊙ zero a b ha hb = refl
+rot-⊙ (suc k) a b ha hb = ap turn (rot-⊙ k a b ha hb) ∙ turn-⊙ (rot k a) (rot k b) (rot-lt k ha) (rot-lt k hb)
+
+-- ---- by k places, digit by digit
 turn-core : (P K q l : ℕ) → P * K ≡ 2 ^ 31 → l < P → q / 2 < K → turn (((q % 2) * P + l) * K + q / 2) ≡ l * (K * 2) + q
 turn-core P K q l e hl hq =
     let s : ((q % 2) * P + l) * K + q / 2 ≡ (q % 2) * (P * K) + (l * K + q / 2) = omega arith in

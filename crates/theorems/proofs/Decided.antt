@@ -1,5 +1,7 @@
 -- Two results that a promise allows are equal, for each public call.
 use mathlib.Core.Path.{_≡_}
+use Rattle.xoodoo.specs.Xoodoo.{planeBytes, toBytes}
+use Rattle.xoodoo.specs.Words.{sixBytes}
 use Rattle.theorems.proofs.Decides.{Decides, once, twice, thrice, fourfold, fivefold}
 use Rattle.xoodoo.proofs.Xoodoo.default.Reads as xoodoo-default
 use Rattle.xoodoo.proofs.Xoodoo.default.Kinds as xoodoo-default-k
@@ -21,6 +23,34 @@ use Rattle.xoodoo.proofs.Xoodoo.rounds.Reads as xoodoo-rounds
 use Rattle.xoodoo.proofs.Xoodoo.rounds.Kinds as xoodoo-rounds-k
 use Rattle.xoodoo.proofs.Xoodoo.unrounds.Reads as xoodoo-unrounds
 use Rattle.xoodoo.proofs.Xoodoo.unrounds.Kinds as xoodoo-unrounds-k
+use Rattle.xoodoo.proofs.words.to_words.Reads as to-words
+use Rattle.xoodoo.proofs.words.to_words.Kinds as to-words-k
+use Rattle.xoodoo.proofs.words.from_words.Reads as from-words
+use Rattle.xoodoo.proofs.words.from_words.Kinds as from-words-k
+use Rattle.xoodoo.proofs.words.permute_bytes.Reads as permute-bytes
+use Rattle.xoodoo.proofs.words.permute_bytes.Kinds as permute-bytes-k
+use Rattle.xoodoo.proofs.words.permute_words.Reads as permute-words
+use Rattle.xoodoo.proofs.words.permute_words.Kinds as permute-words-k
+use Rattle.xoodoo.proofs.words.front4.Reads as front4
+use Rattle.xoodoo.proofs.words.front4.Kinds as front4-k
+use Rattle.xoodoo.proofs.words.front6.Reads as front6
+use Rattle.xoodoo.proofs.words.front6.Kinds as front6-k
+use Rattle.xoodoo.proofs.words.xor6.Reads as xor6
+use Rattle.xoodoo.proofs.words.xor6.Kinds as xor6-k
+use Rattle.xoodoo.proofs.words.add4.Reads as add4
+use Rattle.xoodoo.proofs.words.add4.Kinds as add4-k
+use Rattle.xoodoo.proofs.words.add6.Reads as add6
+use Rattle.xoodoo.proofs.words.add6.Kinds as add6-k
+use Rattle.xoodoo.proofs.words.add11.Reads as add11
+use Rattle.xoodoo.proofs.words.add11.Kinds as add11-k
+use Rattle.xoodoo.proofs.words.pad16.Reads as pad16
+use Rattle.xoodoo.proofs.words.pad16.Kinds as pad16-k
+use Rattle.xoodoo.proofs.words.pad24.Reads as pad24
+use Rattle.xoodoo.proofs.words.pad24.Kinds as pad24-k
+use Rattle.xoodoo.proofs.words.pad44.Reads as pad44
+use Rattle.xoodoo.proofs.words.pad44.Kinds as pad44-k
+use Rattle.xoodoo.proofs.words.colour.Reads as colour
+use Rattle.xoodoo.proofs.words.colour.Kinds as colour-k
 use Rattle.xoodyak.proofs.Session.hash.Reads as hash
 use Rattle.xoodyak.proofs.Session.hash.Kinds as hash-k
 use Rattle.xoodyak.proofs.Session.new.Reads as new
@@ -152,6 +182,49 @@ pub xoodoo-unrounds-decided : Decides 0 xoodoo-unrounds-k.ps xoodoo-unrounds-k.r
 xoodoo-unrounds-decided κs a x x′ e e′ = once
 
 -- ---- sessions
+-- words are promised, and so decided, by their bytes
+pub to-words-decided : Decides 1 to-words-k.ps to-words-k.r to-words.Post (λ κs x x′ e e′. toBytes x ≡ toBytes x′)
+to-words-decided κs a x x′ e e′ = once
+
+pub from-words-decided : Decides 0 from-words-k.ps from-words-k.r from-words.Post (λ κs x x′ e e′. x ≡ x′)
+from-words-decided κs a x x′ e e′ = once
+
+pub permute-bytes-decided : Decides 1 permute-bytes-k.ps permute-bytes-k.r permute-bytes.Post (λ κs x x′ e e′. e .0 .now ≡ e′ .0 .now)
+permute-bytes-decided κs a x x′ e e′ = once
+
+pub permute-words-decided : Decides 0 permute-words-k.ps permute-words-k.r permute-words.Post (λ κs x x′ e e′. toBytes x ≡ toBytes x′)
+permute-words-decided κs a x x′ e e′ = once
+
+pub front4-decided : Decides 0 front4-k.ps front4-k.r front4.Post (λ κs x x′ e e′. planeBytes x ≡ planeBytes x′)
+front4-decided κs a x x′ e e′ = once
+
+pub front6-decided : Decides 0 front6-k.ps front6-k.r front6.Post (λ κs x x′ e e′. sixBytes x ≡ sixBytes x′)
+front6-decided κs a x x′ e e′ = once
+
+pub xor6-decided : Decides 0 xor6-k.ps xor6-k.r xor6.Post (λ κs x x′ e e′. sixBytes x ≡ sixBytes x′)
+xor6-decided κs a x x′ e e′ = once
+
+pub add4-decided : Decides 0 add4-k.ps add4-k.r add4.Post (λ κs x x′ e e′. toBytes x ≡ toBytes x′)
+add4-decided κs a x x′ e e′ = once
+
+pub add6-decided : Decides 0 add6-k.ps add6-k.r add6.Post (λ κs x x′ e e′. toBytes x ≡ toBytes x′)
+add6-decided κs a x x′ e e′ = once
+
+pub add11-decided : Decides 0 add11-k.ps add11-k.r add11.Post (λ κs x x′ e e′. toBytes x ≡ toBytes x′)
+add11-decided κs a x x′ e e′ = once
+
+pub pad16-decided : Decides 0 pad16-k.ps pad16-k.r pad16.Post (λ κs x x′ e e′. toBytes x ≡ toBytes x′)
+pad16-decided κs a x x′ e e′ = once
+
+pub pad24-decided : Decides 0 pad24-k.ps pad24-k.r pad24.Post (λ κs x x′ e e′. toBytes x ≡ toBytes x′)
+pad24-decided κs a x x′ e e′ = once
+
+pub pad44-decided : Decides 0 pad44-k.ps pad44-k.r pad44.Post (λ κs x x′ e e′. toBytes x ≡ toBytes x′)
+pad44-decided κs a x x′ e e′ = once
+
+pub colour-decided : Decides 0 colour-k.ps colour-k.r colour.Post (λ κs x x′ e e′. toBytes x ≡ toBytes x′)
+colour-decided κs a x x′ e e′ = once
+
 pub hash-decided : Decides 0 hash-k.ps hash-k.r hash.Post (λ κs x x′ e e′. x ≡ x′)
 hash-decided κs a x x′ e e′ = once
 

@@ -1,11 +1,11 @@
 -- 48 bytes and a state of words are in bijection.
 use mathlib.Core.Path.{_≡_, refl, sym, ap, ap₂, _∙_}
-use mathlib.Core.List.{List, [], _∷_, _++_}
+use mathlib.Core.List.{List, [], _∷_, _++_, append-nil}
 use Prim.Native.Nat.{ℕ, _+_, _/_, _%_, _^_, _≤_, _<_}
 use native.Mathlib.Nat.{add-zero}
 use native.Mathlib.Omega.{arith}
-use lib.ListN.{length, getD, take, drop, replicate, length-append, length-drop}
-use lib.Seq.{take-all, take-add, drop-drop, getD-drop, sets}
+use lib.ListN.{length, getD, take, drop, length-append, length-drop, drop-of-length-le}
+use lib.Seq.{take-all, take-add, drop-drop, getD-drop, sets, sets-eq}
 use Rattle.laws.specs.Lists.{All, Bytes48}
 use Rattle.laws.proofs.Bytes.{all-getD, all-append, sets-then}
 use Rattle.xoodoo.specs.Xoodoo.{wordOf, wordAt, planeAt, fromBytes, byteOf, wordBytes, planeBytes, toBytes}
@@ -48,11 +48,11 @@ byte-of-lt : (w k : ℕ) → byteOf w k < 256
 unfolding byteOf
 byte-of-lt w k = omega arith
 
-word-bytes : (w : ℕ) → All 256 (wordBytes w)
+pub word-bytes : (w : ℕ) → All 256 (wordBytes w)
 unfolding wordBytes
 word-bytes w = (byte-of-lt w 0, (byte-of-lt w 8, (byte-of-lt w 16, (byte-of-lt w 24, tt))))
 
-plane-bytes : (p : Plane) → All 256 (planeBytes p)
+pub plane-bytes : (p : Plane) → All 256 (planeBytes p)
 unfolding planeBytes
 plane-bytes p =
     let w0 = wordBytes (p .x0) in
@@ -102,7 +102,7 @@ from-good {b} h =
     let w : (i : ℕ) → Words (planeAt b i) = plane-at-words b (h .bytes) in record { g0 = w 0; g1 = w 16; g2 = w 32 }
 
 -- the first four of a list
-four : (l : List ℕ) → 4 ≤ length l → take 4 l ≡ getD l 0 0 ∷ getD l 1 0 ∷ getD l 2 0 ∷ getD l 3 0 ∷ []
+pub four : (l : List ℕ) → 4 ≤ length l → take 4 l ≡ getD l 0 0 ∷ getD l 1 0 ∷ getD l 2 0 ∷ getD l 3 0 ∷ []
 four [] h = absurd (omega arith)
 four (a ∷ []) h = absurd (omega arith)
 four (a ∷ b ∷ []) h = absurd (omega arith)
@@ -110,19 +110,19 @@ four (a ∷ b ∷ c ∷ []) h = absurd (omega arith)
 four (a ∷ b ∷ c ∷ d ∷ l) h = refl
 
 -- two runs, one after the other
-join : (b : List ℕ) (i n j m : ℕ) → i + n ≡ j → take n (drop i b) ++ take m (drop j b) ≡ take (n + m) (drop i b)
+pub join : (b : List ℕ) (i n j m : ℕ) → i + n ≡ j → take n (drop i b) ++ take m (drop j b) ≡ take (n + m) (drop i b)
 join b i n j m e =
     ap (λ (l : List ℕ). take n (drop i b) ++ take m l) (ap (λ (k : ℕ). drop k b) (sym e) ∙ sym (drop-drop n i b))
     ∙ sym (take-add n m (drop i b))
 
-word-at-back : (b : List ℕ) (i : ℕ) → All 256 b → i + 4 ≤ length b → wordBytes (wordAt b i) ≡ take 4 (drop i b)
+pub word-at-back : (b : List ℕ) (i : ℕ) → All 256 b → i + 4 ≤ length b → wordBytes (wordAt b i) ≡ take 4 (drop i b)
 unfolding wordAt
 word-at-back b i h l =
     let lt : (k : ℕ) → getD b k 0 < 256 = byte-lt b h in
     let n : 4 ≤ length (drop i b) = omega (arith, length-drop i b) in
     bytes-back _ _ _ _ (lt i) (lt (i + 1)) (lt (i + 2)) (lt (i + 3)) ∙ sym (four (drop i b) n ∙ simp (getD-drop, add-zero))
 
-plane-at-back : (b : List ℕ) (i : ℕ) → All 256 b → i + 16 ≤ length b → planeBytes (planeAt b i) ≡ take 16 (drop i b)
+pub plane-at-back : (b : List ℕ) (i : ℕ) → All 256 b → i + 16 ≤ length b → planeBytes (planeAt b i) ≡ take 16 (drop i b)
 unfolding planeAt planeBytes
 plane-at-back b i h l =
     rw (
@@ -144,7 +144,7 @@ to-from {b} h =
     (take-all 48 b (omega arith))
 
 -- ---- the bytes written word by word, and plane by plane
-word-size : (w : ℕ) → length (wordBytes w) ≡ 4
+pub word-size : (w : ℕ) → length (wordBytes w) ≡ 4
 unfolding wordBytes
 word-size w = refl
 
@@ -162,7 +162,22 @@ stored-plane b i p =
     ∙ ap (λ (l : List ℕ). sets l (i + 12) w3) (sets-then (w0 ++ w1) w2 b i (i + 8) (simp (length-append, word-size))
     ∙ ap (λ (l : List ℕ). sets l (i + 8) w2) (sets-then w0 w1 b i (i + 4) (simp word-size))))
 
-pub stored : (s : State)
-    → sets (sets (sets (replicate 48 0) 0 (planeBytes (s .p0))) 16 (planeBytes (s .p1))) 32 (planeBytes (s .p2)) ≡ toBytes s
-unfolding toBytes planeBytes wordBytes
-stored s = refl
+pub plane-size : (p : Plane) → length (planeBytes p) ≡ 16
+unfolding planeBytes wordBytes
+plane-size p = refl
+
+pub stored : (b : List ℕ) (s : State) → length b ≡ 48
+    → sets (sets (sets b 0 (planeBytes (s .p0))) 16 (planeBytes (s .p1))) 32 (planeBytes (s .p2)) ≡ toBytes s
+unfolding toBytes
+stored b s l =
+    let w0 = planeBytes (s .p0) in
+    let w1 = planeBytes (s .p1) in
+    let w2 = planeBytes (s .p2) in
+    let n : length (w0 ++ w1 ++ w2) ≡ 48 = to-size s in
+    let k : length b ≤ 0 + length (w0 ++ w1 ++ w2) = omega arith in
+    let h : drop (0 + length (w0 ++ w1 ++ w2)) b ≡ [] = drop-of-length-le b k in
+    sym
+    (sets-then (w0 ++ w1) w2 b 0 32 (simp (length-append, plane-size))
+    ∙ ap (λ (k : List ℕ). sets k 32 w2) (sets-then w0 w1 b 0 16 (simp plane-size)))
+    ∙ sets-eq (w0 ++ w1 ++ w2) b 0 (omega arith)
+    ∙ rw (h, append-nil)

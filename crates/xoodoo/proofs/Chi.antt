@@ -1,10 +1,11 @@
--- One word of chi: its bound, that chi undoes itself, and that it may be done in place.
+-- One word of chi: its bound, that chi undoes itself, that it may be done in place, and that a rotation passes through it.
 use mathlib.Core.Path.{_≡_, refl, sym, ap, _∙_}
 use Prim.Native.Nat.{ℕ, _^_, _<_, min}
 use lib.Bits.{differ}
 use lib.Pow.{ones-sub-lt}
 use Rattle.laws.specs.Words.{_⊕_, _⊙_, not32}
 use Rattle.laws.proofs.Words.{⊕-lt, ⊙-lt, not-and, bit-⊕, bit-⊙, bit-ext, bits3}
+use Rattle.laws.proofs.Rotation.{rot, rot-⊕, rot-⊙, rot-lt}
 use Rattle.xoodoo.specs.Xoodoo.{gain}
 
 pub gain-lt : {a c : ℕ} (b : ℕ) → a < 2 ^ 32 → c < 2 ^ 32 → gain a b c < 2 ^ 32
@@ -60,3 +61,10 @@ pub gain-third : (a b c : ℕ) → a < 2 ^ 32 → b < 2 ^ 32 → c < 2 ^ 32 → 
 gain-third a b c ha hb hc =
     gain-is c _ _ (gain-lt b ha hc) (gain-lt c hb ha) ∙ rw (gain-is a b c hb hc, gain-is b c a hc ha) (gain′-third a b c)
     ∙ sym (gain-is c a b ha hb)
+
+-- ---- rotated
+pub rot-gain : (k a b c : ℕ) → b < 2 ^ 32 → c < 2 ^ 32 → gain (rot k a) (rot k b) (rot k c) ≡ rot k (gain a b c)
+unfolding gain′
+rot-gain k a b c hb hc =
+    gain-is _ _ _ (rot-lt k hb) (rot-lt k hc)
+    ∙ sym (ap (rot k) (gain-is a b c hb hc) ∙ rw (rot-⊕, rot-⊕, rot-⊙ k b c hb hc))

@@ -96,22 +96,22 @@ ups-ups zero n p = rw add-zero
 ups-ups (suc m) n p = rw add-suc (ap up (ups-ups m n p))
 
 -- ---- rotations of each word
-pub rots : ℕ → Plane → Plane
+unfoldable pub rots : ℕ → Plane → Plane
 rots k p = each (rot k) p
 
-rots-words : (k : ℕ) {p : Plane} → Words p → Words (rots k p)
+pub rots-words : (k : ℕ) {p : Plane} → Words p → Words (rots k p)
 unfolding rots
 rots-words k h = record { w0 = rot-lt k (h .w0); w1 = rot-lt k (h .w1); w2 = rot-lt k (h .w2); w3 = rot-lt k (h .w3) }
 
-rots-⊞ : (k : ℕ) (p q : Plane) → rots k (p ⊞ q) ≡ rots k p ⊞ rots k q
+pub rots-⊞ : (k : ℕ) (p q : Plane) → rots k (p ⊞ q) ≡ rots k p ⊞ rots k q
 unfolding rots _⊞_
 rots-⊞ k p q = plane≡ (rot-⊕ k _ _) (rot-⊕ k _ _) (rot-⊕ k _ _) (rot-⊕ k _ _)
 
-rots-rots : (j k : ℕ) (p : Plane) → rots j (rots k p) ≡ rots (k + j) p
+pub rots-rots : (j k : ℕ) (p : Plane) → rots j (rots k p) ≡ rots (k + j) p
 unfolding rots
 rots-rots j k p = plane≡ (rot-rot j k _) (rot-rot j k _) (rot-rot j k _) (rot-rot j k _)
 
-rots-ups : (k m : ℕ) (p : Plane) → rots k (ups m p) ≡ ups m (rots k p)
+pub rots-ups : (k m : ℕ) (p : Plane) → rots k (ups m p) ≡ ups m (rots k p)
 unfolding ups rots up
 rots-ups k zero p = refl
 rots-ups k (suc m) p = ap up (rots-ups k m p)
@@ -121,7 +121,7 @@ pub rots-mod : (k : ℕ) {p : Plane} → Words p → rots k p ≡ rots (k % 32) 
 unfolding rots
 rots-mod k h = plane≡ (rot-mod k _ (h .w0)) (rot-mod k _ (h .w1)) (rot-mod k _ (h .w2)) (rot-mod k _ (h .w3))
 
-rots-zero : (p : Plane) → rots 0 p ≡ p
+pub rots-zero : (p : Plane) → rots 0 p ≡ p
 unfolding rots
 rots-zero p = plane≡ (rot-zero _) (rot-zero _) (rot-zero _) (rot-zero _)
 

@@ -1,8 +1,9 @@
 -- The rounds one constant at a time, as the loops take them: forwards from the i-th on, and backwards down to the i-th.
 use mathlib.Core.Path.{_≡_, sym, ap, _∙_}
-use mathlib.Core.List.{List, _∷_}
+use mathlib.Core.List.{List, [], _∷_}
 use Prim.Native.Nat.{ℕ, _+_, _<_}
 use native.Mathlib.Numerals.{add-one}
+use native.Mathlib.Omega.{arith}
 use lib.ListN.{length, drop, getD}
 use lib.Seq.{drop-cons, drop-length}
 use Rattle.xoodoo.specs.Xoodoo.{round, unround, rounds, unrounds}
@@ -16,6 +17,18 @@ pub rounds-next : (cs : List ℕ) (i : ℕ) (s : State) → i < length cs
     → rounds (drop i cs) s ≡ rounds (drop (i + 1) cs) (round (getD cs i 0) s)
 unfolding rounds
 rounds-next cs i s h = ap (λ (l : List ℕ). rounds l s) (next cs i h)
+
+-- four at once
+pub rounds-four : (cs : List ℕ) (i : ℕ) (s : State) → i + 3 < length cs
+    → rounds (drop i cs) s
+    ≡ rounds (drop (i + 4) cs) (rounds (getD cs i 0 ∷ getD cs (i + 1) 0 ∷ getD cs (i + 2) 0 ∷ getD cs (i + 3) 0 ∷ []) s)
+unfolding rounds
+rounds-four cs i s h =
+    one i (i + 1) s (omega arith) (omega arith) ∙ one (i + 1) (i + 2) _ (omega arith) (omega arith)
+    ∙ one (i + 2) (i + 3) _ (omega arith) (omega arith) ∙ one (i + 3) (i + 4) _ (omega arith) (omega arith)
+  where
+    one : (i j : ℕ) (s : State) → i < length cs → i + 1 ≡ j → rounds (drop i cs) s ≡ rounds (drop j cs) (round (getD cs i 0) s)
+    one i j s h e = rounds-next cs i s h ∙ ap (λ (n : ℕ). rounds (drop n cs) (round (getD cs i 0) s)) e
 
 pub rounds-end : (cs : List ℕ) (s : State) → rounds (drop (length cs) cs) s ≡ s
 unfolding rounds

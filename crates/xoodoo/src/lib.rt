@@ -4,14 +4,16 @@ ghost use lib.ListN.{replicate};
 ghost use Rattle.xoodoo.specs.Xoodoo as xoodoo;
 ghost use Rattle.xoodoo.specs.Calls.{addByteOf, addBytesOf, extractBytesOf, roundsOf, unroundsOf};
 
-mod round;
+mod frame;
+pub mod round;
 mod unround;
-mod words;
+pub mod words;
 
 use crate::round::rounds;
 use crate::unround::unrounds;
+use crate::words::from_words;
 use crate::words::load;
-use crate::words::store;
+use crate::words::permute_bytes;
 
 // The 48 bytes.
 pub struct Xoodoo {
@@ -104,7 +106,7 @@ impl Xoodoo {
     {
         if n <= 12 {
             let st = self.st;
-            let after = store(rounds(n, load(&st)));
+            let after = from_words(rounds(n, load(&st)));
             return Answer {
                 state: Xoodoo { st: after },
                 number: 0,
@@ -122,7 +124,7 @@ impl Xoodoo {
     {
         if n <= 12 {
             let st = self.st;
-            let before = store(unrounds(n, load(&st)));
+            let before = from_words(unrounds(n, load(&st)));
             return Answer {
                 state: Xoodoo { st: before },
                 number: 0,
@@ -137,7 +139,9 @@ impl Xoodoo {
     pub fn permute(self) -> Xoodoo
         ensures { λ r. ⌜ r ≡ record { st = xoodoo.xoodoo (self .st) } ⌝ }
     {
-        self.rounds(12).state
+        let mut st = self.st;
+        permute_bytes(&mut st);
+        Xoodoo { st: st }
     }
 
     pub fn inverse(self) -> Xoodoo

@@ -34,7 +34,7 @@ pub(crate) const ROUND_KEYS: [u32; 12] = [
     0x012,
 ];
 
-fn rotated(w: u32, k: u32) -> u32
+pub(crate) fn rotated(w: u32, k: u32) -> u32
     requires { ⌜ (0 < k) × (k < 32) ⌝ }
     ensures { λ r. ⌜ r ≡ rotl k w ⌝ }
 {
@@ -99,13 +99,13 @@ pub(crate) fn add_planes(e: Plane, s: State) -> State
     }
 }
 
-fn theta(s: State) -> State
+pub(crate) fn theta(s: State) -> State
     ensures { λ r. ⌜ r ≡ xoodoo.theta s ⌝ }
 {
     add_planes(effect(parity(s)), s)
 }
 
-fn rho_west(s: State) -> State
+pub(crate) fn rho_west(s: State) -> State
     ensures { λ r. ⌜ r ≡ xoodoo.rhoWest s ⌝ }
 {
     let a = s.p0;

@@ -1,10 +1,35 @@
-// 48 bytes as twelve little-endian words, and back.
+// 48 bytes as twelve little-endian words and back, and what is done to the words for a loop that stays in them.
+// What is promised of them is said of their bytes.
 ghost use mathlib.Core.Path.{_≡_};
 ghost use Prim.Native.Nat.{_+_, _<_, _≤_};
+ghost use lib.ListN.{length, take};
 ghost use lib.Seq.{sets};
-ghost use Rattle.xoodoo.specs.Xoodoo.{wordOf, wordAt, planeAt, fromBytes, byteOf, wordBytes, planeBytes, toBytes};
+ghost use Rattle.laws.specs.Lists.{addFront, addAt};
+ghost use Rattle.xoodoo.specs.Xoodoo.{wordOf, wordAt, planeAt, fromBytes, byteOf, wordBytes, planeBytes, toBytes, xoodoo};
+ghost use Rattle.xoodoo.specs.Words.{sixBytes, elevenBytes};
+use crate::frame::twelve_rounds;
 use crate::round::Plane;
 use crate::round::State;
+use crate::round::xor4;
+
+// The words of a block of 24 bytes; a plane has those of 16.
+pub struct Six {
+    pub x0: u32,
+    pub x1: u32,
+    pub x2: u32,
+    pub x3: u32,
+    pub x4: u32,
+    pub x5: u32,
+}
+
+// The words of a block of 44 bytes.
+pub struct Eleven {
+    pub p0: Plane,
+    pub p1: Plane,
+    pub x0: u32,
+    pub x1: u32,
+    pub x2: u32,
+}
 
 fn word(a: u8, b: u8, c: u8, d: u8) -> u32
     ensures { λ r. ⌜ r ≡ wordOf a b c d ⌝ }
@@ -41,6 +66,19 @@ pub(crate) fn load(b: &[u8; 48]) -> State
     }
 }
 
+// By value, since of a lent array it is not known that its numbers are bytes.
+fn words_of(b: [u8; 48]) -> State
+    ensures { λ r. ⌜ toBytes r ≡ b ⌝ }
+{
+    load(&b)
+}
+
+pub fn to_words(b: &[u8; 48]) -> State
+    ensures { λ r. ⌜ toBytes r ≡ now (b .entry) ⌝ }
+{
+    words_of(*b)
+}
+
 fn byte_of(w: u32, k: u32) -> u8
     requires { ⌜ k < 32 ⌝ }
     ensures { λ r. ⌜ r ≡ byteOf w k ⌝ }
@@ -68,7 +106,7 @@ fn put_plane(b: &mut [u8; 48], at: usize, p: Plane)
     put_word(b, at + 12, p.x3);
 }
 
-pub(crate) fn store(s: State) -> [u8; 48]
+pub fn from_words(s: State) -> [u8; 48]
     ensures { λ r. ⌜ r ≡ toBytes s ⌝ }
 {
     let mut b = [0u8; 48];
@@ -76,4 +114,187 @@ pub(crate) fn store(s: State) -> [u8; 48]
     put_plane(&mut b, 16, s.p1);
     put_plane(&mut b, 32, s.p2);
     b
+}
+
+// By value, since of a lent array it is not known that it has 48 numbers.
+fn permuted(b: [u8; 48]) -> State
+    ensures { λ r. ⌜ (length b ≡ 48) × (toBytes r ≡ xoodoo b) ⌝ }
+{
+    twelve_rounds(load(&b))
+}
+
+// Where the bytes lie: each word is put back where it was read, and no copy is made.
+pub fn permute_bytes(st: &mut [u8; 48])
+    ensures { λ _. ⌜ now (st .exit) ≡ xoodoo (now (st .entry)) ⌝ }
+{
+    let s = permuted(*st);
+    put_plane(st, 0, s.p0);
+    put_plane(st, 16, s.p1);
+    put_plane(st, 32, s.p2);
+}
+
+// By way of the bytes, so that the rounds stand at one place in a program.
+pub fn permute_words(s: State) -> State
+    ensures { λ r. ⌜ toBytes r ≡ xoodoo (toBytes s) ⌝ }
+{
+    let mut b = from_words(s);
+    permute_bytes(&mut b);
+    load(&b)
+}
+
+// The first 16 bytes.
+pub fn front4(s: State) -> Plane
+    ensures { λ r. ⌜ planeBytes r ≡ take 16 (toBytes s) ⌝ }
+{
+    s.p0
+}
+
+// The first 24 bytes.
+pub fn front6(s: State) -> Six
+    ensures { λ r. ⌜ sixBytes r ≡ take 24 (toBytes s) ⌝ }
+{
+    Six {
+        x0: s.p0.x0,
+        x1: s.p0.x1,
+        x2: s.p0.x2,
+        x3: s.p0.x3,
+        x4: s.p1.x0,
+        x5: s.p1.x1,
+    }
+}
+
+pub fn xor6(a: Six, b: Six) -> Six
+    ensures { λ r. ⌜ sixBytes r ≡ addFront (sixBytes a) (sixBytes b) ⌝ }
+{
+    Six {
+        x0: a.x0 ^ b.x0,
+        x1: a.x1 ^ b.x1,
+        x2: a.x2 ^ b.x2,
+        x3: a.x3 ^ b.x3,
+        x4: a.x4 ^ b.x4,
+        x5: a.x5 ^ b.x5,
+    }
+}
+
+// A block of 16 bytes is added at byte 0.
+pub fn add4(s: State, x: Plane) -> State
+    ensures { λ r. ⌜ toBytes r ≡ addFront (toBytes s) (planeBytes x) ⌝ }
+{
+    let b = s.p1;
+    let d = s.p2;
+    State {
+        p0: xor4(s.p0, x),
+        p1: b,
+        p2: d,
+    }
+}
+
+// A block of 24 bytes is.
+pub fn add6(s: State, x: Six) -> State
+    ensures { λ r. ⌜ toBytes r ≡ addFront (toBytes s) (sixBytes x) ⌝ }
+{
+    let d = s.p2;
+    State {
+        p0: Plane {
+            x0: s.p0.x0 ^ x.x0,
+            x1: s.p0.x1 ^ x.x1,
+            x2: s.p0.x2 ^ x.x2,
+            x3: s.p0.x3 ^ x.x3,
+        },
+        p1: Plane {
+            x0: s.p1.x0 ^ x.x4,
+            x1: s.p1.x1 ^ x.x5,
+            x2: s.p1.x2,
+            x3: s.p1.x3,
+        },
+        p2: d,
+    }
+}
+
+// A block of 44 bytes is.
+pub fn add11(s: State, x: Eleven) -> State
+    ensures { λ r. ⌜ toBytes r ≡ addFront (toBytes s) (elevenBytes x) ⌝ }
+{
+    State {
+        p0: xor4(s.p0, x.p0),
+        p1: xor4(s.p1, x.p1),
+        p2: Plane {
+            x0: s.p2.x0 ^ x.x0,
+            x1: s.p2.x1 ^ x.x1,
+            x2: s.p2.x2 ^ x.x2,
+            x3: s.p2.x3,
+        },
+    }
+}
+
+// 1 is added after a block of 16 bytes.
+pub fn pad16(s: State) -> State
+    ensures { λ r. ⌜ toBytes r ≡ addAt (toBytes s) 16 1 ⌝ }
+{
+    let a = s.p0;
+    let d = s.p2;
+    State {
+        p0: a,
+        p1: Plane {
+            x0: s.p1.x0 ^ 1,
+            x1: s.p1.x1,
+            x2: s.p1.x2,
+            x3: s.p1.x3,
+        },
+        p2: d,
+    }
+}
+
+// After a block of 24 bytes.
+pub fn pad24(s: State) -> State
+    ensures { λ r. ⌜ toBytes r ≡ addAt (toBytes s) 24 1 ⌝ }
+{
+    let a = s.p0;
+    let d = s.p2;
+    State {
+        p0: a,
+        p1: Plane {
+            x0: s.p1.x0,
+            x1: s.p1.x1,
+            x2: s.p1.x2 ^ 1,
+            x3: s.p1.x3,
+        },
+        p2: d,
+    }
+}
+
+// After a block of 44 bytes.
+pub fn pad44(s: State) -> State
+    ensures { λ r. ⌜ toBytes r ≡ addAt (toBytes s) 44 1 ⌝ }
+{
+    let a = s.p0;
+    let b = s.p1;
+    State {
+        p0: a,
+        p1: b,
+        p2: Plane {
+            x0: s.p2.x0,
+            x1: s.p2.x1,
+            x2: s.p2.x2,
+            x3: s.p2.x3 ^ 1,
+        },
+    }
+}
+
+// The colour is added to the last byte.
+pub fn colour(s: State, cu: u8) -> State
+    ensures { λ r. ⌜ toBytes r ≡ addAt (toBytes s) 47 cu ⌝ }
+{
+    let a = s.p0;
+    let b = s.p1;
+    State {
+        p0: a,
+        p1: b,
+        p2: Plane {
+            x0: s.p2.x0,
+            x1: s.p2.x1,
+            x2: s.p2.x2,
+            x3: s.p2.x3 ^ ((cu as u32) * 0x1000000),
+        },
+    }
 }

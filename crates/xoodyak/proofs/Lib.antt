@@ -1,4 +1,5 @@
 -- Laws of sessions that the functions' proofs cite.
+pub mod BlockWords
 pub mod Turns
 pub mod Message
 pub mod Same

@@ -2,11 +2,18 @@
 ghost use mathlib.Core.Path.{_≡_};
 ghost use Prim.Native.Nat.{_≤_, _<_};
 ghost use lib.ListN.{length};
-ghost use Rattle.xoodyak.specs.Cyclist.{fresh, absorbRate, squeezeRate, up, down, ready, next, absorb, absorbMore, squeezeEnd, squeezeOut, squeezeMoreEnd, squeezeMoreOut};
-use crate::bytes::copy_into;
+ghost use Rattle.xoodoo.specs.Xoodoo.{toBytes};
+ghost use Rattle.xoodyak.specs.Cyclist.{fresh, absorbRate, squeezeRate, upColour, up, down, ready, absorb, absorbMore, squeezeEnd, squeezeOut, squeezeMoreEnd, squeezeMoreOut};
 use crate::bytes::least;
-use crate::bytes::xor_into;
-use xoodoo::Xoodoo;
+use crate::words::absorb_block;
+use crate::words::down_words;
+use crate::words::next_words;
+use crate::words::write_front;
+use xoodoo::round::State;
+use xoodoo::words::colour;
+use xoodoo::words::from_words;
+use xoodoo::words::permute_words;
+use xoodoo::words::to_words;
 
 pub enum Mode {
     Hash,
@@ -55,21 +62,26 @@ impl Duplex {
         }
     }
 
+    // The words that Up with cu permutes: if Keyed, byte 47 gains cu.
+    pub(crate) fn coloured(self, cu: u8) -> State
+        ensures { λ r. ⌜ toBytes r ≡ upColour (self .mode) cu (self .st) ⌝ }
+    {
+        let st = self.st;
+        let v = to_words(&st);
+        let mode = self.mode;
+        match mode {
+            Mode::Hash => v,
+            Mode::Keyed => colour(v, cu),
+        }
+    }
+
     pub(crate) fn up(self, cu: u8) -> Duplex
         ensures { λ r. ⌜ r ≡ up self cu ⌝ }
     {
-        let mut st = self.st;
         let mode = self.mode;
-        match mode {
-            Mode::Hash => {}
-            Mode::Keyed => {
-                st[47] = st[47] ^ cu;
-            }
-        }
-        let x = Xoodoo::from_bytes(st).permute();
-        let after = x.st;
+        let st = from_words(permute_words(self.coloured(cu)));
         Duplex {
-            st: after,
+            st: st,
             mode: mode,
             phase: Phase::Up,
         }
@@ -79,18 +91,16 @@ impl Duplex {
         requires { ⌜ length (now x) < 48 ⌝ }
         ensures { λ r. ⌜ r ≡ down self (now (x .entry)) cd ⌝ }
     {
-        let mut st = self.st;
+        let st = self.st;
         let mode = self.mode;
-        let n = x.len();
-        xor_into(&mut st, x);
-        st[n] = st[n] ^ 1;
-        let colour = match mode {
+        let v = down_words(to_words(&st), x);
+        let cd = match mode {
             Mode::Hash => cd & 1,
             Mode::Keyed => cd,
         };
-        st[47] = st[47] ^ colour;
+        let after = from_words(colour(v, cd));
         Duplex {
-            st: st,
+            st: after,
             mode: mode,
             phase: Phase::Down,
         }
@@ -107,26 +117,29 @@ impl Duplex {
         }
     }
 
-    // Down(empty, 00) and Up(00).
-    pub(crate) fn next(self) -> Duplex
-        ensures { λ r. ⌜ r ≡ next self ⌝ }
-    {
-        self.down(b"", 0).up(0)
-    }
-
     pub(crate) fn absorb_more(self, bin: &[u8], rate: usize) -> Duplex
         requires { ⌜ (0 < rate) × (rate ≤ 44) ⌝ }
         ensures { λ r. ⌜ r ≡ absorbMore rate self (now (bin .entry)) ⌝ }
     {
-        let mut d = self;
         let n = bin.len();
+        if n == 0 {
+            return self;
+        }
+        let mode = self.mode;
+        let st = self.st;
+        let mut v = to_words(&st);
         let mut i = 0;
         while i < n {
             let e = i + least(rate, n - i);
-            d = d.up(0).down(&bin[i..e], 0);
+            v = absorb_block(v, &bin[i..e]);
             i = e;
         }
-        d
+        let after = from_words(v);
+        Duplex {
+            st: after,
+            mode: mode,
+            phase: Phase::Down,
+        }
     }
 
     pub(crate) fn absorb_any(self, bin: &[u8], rate: usize, cd: u8) -> Duplex
@@ -142,19 +155,27 @@ impl Duplex {
         ensures { λ r. ⌜ r ≡ squeezeMoreEnd self (length (now (out .entry))) ⌝ }
         ensures { λ _. ⌜ now (out .exit) ≡ squeezeMoreOut self (length (now (out .entry))) ⌝ }
     {
-        let rate = self.squeeze_rate();
-        let mut d = self;
         let n = out.len();
+        if n == 0 {
+            return self;
+        }
+        let rate = self.squeeze_rate();
+        let mode = self.mode;
+        let st = self.st;
+        let mut v = to_words(&st);
         let mut i = 0;
         while i < n {
-            let k = least(rate, n - i);
-            let e = i + k;
-            d = d.next();
-            let st = d.st;
-            copy_into(&mut out[i..e], &st[..k]);
+            let e = i + least(rate, n - i);
+            v = next_words(v);
+            write_front(v, &mut out[i..e]);
             i = e;
         }
-        d
+        let after = from_words(v);
+        Duplex {
+            st: after,
+            mode: mode,
+            phase: Phase::Up,
+        }
     }
 
     pub(crate) fn squeeze_any(self, out: &mut [u8], cu: u8) -> Duplex
@@ -164,7 +185,7 @@ impl Duplex {
         let k = least(self.squeeze_rate(), out.len());
         let d = self.up(cu);
         let st = d.st;
-        copy_into(&mut out[..k], &st[..k]);
+        write_front(to_words(&st), &mut out[..k]);
         d.squeeze_more(&mut out[k..])
     }
 }

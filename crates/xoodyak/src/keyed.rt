@@ -3,7 +3,6 @@ ghost use mathlib.Core.Path.{_≡_};
 ghost use mathlib.Core.List.{[], _∷_, _++_};
 ghost use Prim.Native.Nat.{_+_, _≤_};
 ghost use lib.ListN.{length, take};
-ghost use Rattle.laws.specs.Lists.{addFront};
 ghost use Rattle.laws.specs.Blocks.{cuts};
 ghost use Rattle.xoodyak.specs.Cyclist.{up, down, ratchet, keyCall, emptyBlock, encEnd, encOut, decEnd, decOut};
 ghost use Rattle.xoodyak.specs.Calls.{answerOf, keyOf, newOf, ratchetOf, encryptEnd, encryptOut, decryptEnd, decryptOut, encryptOf, decryptOf, encryptInPlaceOf, decryptInPlaceOf};
@@ -14,13 +13,16 @@ use crate::bytes::choose;
 use crate::bytes::copy_into;
 use crate::bytes::least;
 use crate::bytes::or_empty;
-use crate::bytes::xor_into;
 use crate::cyclist::Duplex;
 use crate::cyclist::Mode;
+use crate::cyclist::Phase;
 use crate::numbers::first;
 use crate::numbers::key_number;
 use crate::numbers::missing;
 use crate::numbers::room_number;
+use crate::words::decrypt_block;
+use crate::words::encrypt_block;
+use xoodoo::words::from_words;
 
 // Key, t and the length of t, at the front of 44 bytes; how many.
 fn write_iv(iv: &mut [u8], key: &[u8], t: &[u8]) -> usize
@@ -81,65 +83,54 @@ impl Duplex {
         self.up(0x80).down(b"", 0)
     }
 
-    // One block, encrypted where it lies.
-    fn encrypt_block(self, buf: &mut [u8], cu: u8) -> Duplex
-        requires { ⌜ length (now buf) ≤ 24 ⌝ }
-        ensures { λ r. ⌜ r ≡ down (up self cu) (now (buf .entry)) 0 ⌝ }
-        ensures { λ _. ⌜ now (buf .exit) ≡ addFront (now (buf .entry)) (up self cu .st) ⌝ }
-    {
-        let d = self.up(cu);
-        let after = d.down(buf, 0);
-        let stream = d.st;
-        let n = buf.len();
-        xor_into(buf, &stream[..n]);
-        after
-    }
-
-    // One block, decrypted where it lies.
-    fn decrypt_block(self, buf: &mut [u8], cu: u8) -> Duplex
-        requires { ⌜ length (now buf) ≤ 24 ⌝ }
-        ensures { λ r. ⌜ r ≡ down (up self cu) (addFront (now (buf .entry)) (up self cu .st)) 0 ⌝ }
-        ensures { λ _. ⌜ now (buf .exit) ≡ addFront (now (buf .entry)) (up self cu .st) ⌝ }
-    {
-        let d = self.up(cu);
-        let stream = d.st;
-        let n = buf.len();
-        xor_into(buf, &stream[..n]);
-        d.down(buf, 0)
-    }
-
     pub(crate) fn encrypt_blocks(self, buf: &mut [u8]) -> Duplex
         ensures { λ r. ⌜ r ≡ encEnd (cuts 24 (now (buf .entry))) 0x80 self ⌝ }
         ensures { λ _. ⌜ now (buf .exit) ≡ encOut (cuts 24 (now (buf .entry))) 0x80 self ⌝ }
     {
-        let mut d = self;
-        let mut cu = 0x80;
         let n = buf.len();
+        if n == 0 {
+            return self;
+        }
+        let mode = self.mode;
+        // 80 is added once, before the loop, and every block's Up has 00
+        let mut v = self.coloured(0x80);
         let mut i = 0;
         while i < n {
             let end = i + least(24, n - i);
-            d = d.encrypt_block(&mut buf[i..end], cu);
-            cu = 0;
+            v = encrypt_block(v, &mut buf[i..end]);
             i = end;
         }
-        d
+        let st = from_words(v);
+        Duplex {
+            st: st,
+            mode: mode,
+            phase: Phase::Down,
+        }
     }
 
     pub(crate) fn decrypt_blocks(self, buf: &mut [u8]) -> Duplex
         ensures { λ r. ⌜ r ≡ decEnd (cuts 24 (now (buf .entry))) 0x80 self ⌝ }
         ensures { λ _. ⌜ now (buf .exit) ≡ decOut (cuts 24 (now (buf .entry))) 0x80 self ⌝ }
     {
-        let mut d = self;
-        let mut cu = 0x80;
         let n = buf.len();
+        if n == 0 {
+            return self;
+        }
+        let mode = self.mode;
+        // 80 is added once, before the loop, and every block's Up has 00
+        let mut v = self.coloured(0x80);
         let mut i = 0;
         while i < n {
             let e = i + least(24, n - i);
-            d = d.decrypt_block(&mut buf[i..e], cu);
-            cu = 0;
+            v = decrypt_block(v, &mut buf[i..e]);
             i = e;
         }
-        d
+        let st = from_words(v);
+        Duplex {
+            st: st,
+            mode: mode,
+            phase: Phase::Down,
+        }
     }
 }
 

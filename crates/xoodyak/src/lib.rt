@@ -8,6 +8,7 @@ pub mod keyed;
 pub mod numbers;
 pub mod shares;
 pub mod tag;
+mod words;
 
 ghost use mathlib.Core.Path.{_≡_};
 ghost use Rattle.xoodyak.specs.Calls.{onward};

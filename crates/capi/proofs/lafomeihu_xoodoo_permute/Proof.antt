@@ -1,16 +1,10 @@
--- The bytes are made a state, which the permutation's promise carries on.
+-- The permutation's own promise.
 use borrow.Author.Needs.{needs}
 use Rattle.capi.proofs.lafomeihu_xoodoo_permute.Statement.{statement}
 use Rattle.capi.proofs.lafomeihu_xoodoo_permute.Tie as tie
 
-from-bytes-requires : tie.Need-from-bytes-requires
-from-bytes-requires c κs = search needs
-
-permute-requires : tie.Need-permute-requires
-permute-requires c κs = search needs
-
 returns : tie.Need-returns
-returns c = rw (c .before .permute .ensures, c .before .before .from-bytes .ensures)
+returns c = c .permute-bytes .ensures
 
 pub lafomeihu-xoodoo-permute-spec : {M : Type 1} → statement M
-lafomeihu-xoodoo-permute-spec = tie.close (tie.spec from-bytes-requires permute-requires returns)
+lafomeihu-xoodoo-permute-spec = tie.close (tie.spec (λ c κs. search needs) returns)
