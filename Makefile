@@ -44,9 +44,8 @@ lib:
 
 bench: lib
 	rust/bench/build.sh
-	rt check replay
 	target/bench/bench
-	python3 tools/walkback_times.py target/bin/replay
+	rust/bench/counts.sh
 
 rust:
 	@echo 'nothing to do yet: the drop-in crate and the C test are not there'

@@ -1,6 +1,8 @@
-// Measures the port beside three builds of the original crate in one run, as a Markdown table of minima.
+// Measures the port beside three builds of the original crate in one run, as a Markdown table of minima, and then things of
+// the port alone beside each other.
 //
-//     target/bench/bench [WORD..]    only the things whose name begins with one of the words
+//     target/bench/bench [WORD..]                     only the things whose name begins with one of the words
+//     target/bench/bench --times N FORM NAME          does one thing so often and measures nothing: for rust/bench/counts.sh
 use std::time::Instant;
 
 #[cfg(port)]
@@ -36,8 +38,27 @@ impl Measured {
     }
 }
 
+// Of the forms that callgrind can run.
+fn do_times(times: u64, form: &str, name: &str) {
+    let things = match form {
+        "sse" => crate_sse::things(),
+        "portable" => crate_portable::things(),
+        #[cfg(port)]
+        "port" => port::things(),
+        _ => panic!("no form {form}"),
+    };
+    for (its_name, mut run) in things {
+        if its_name == name {
+            run(times);
+        }
+    }
+}
+
 fn main() {
     let words: Vec<String> = std::env::args().skip(1).collect();
+    if words.first().is_some_and(|word| word == "--times") {
+        return do_times(words[1].parse().expect("a number of times"), &words[2], &words[3]);
+    }
     let zeros = crate_sse::permuted_zeros();
     assert_eq!(zeros, crate_portable::permuted_zeros(), "the portable file permutes otherwise");
     assert_eq!(zeros, crate_native::permuted_zeros(), "the native build permutes otherwise");
@@ -45,6 +66,8 @@ fn main() {
     assert_eq!(zeros, port::permuted_zeros(), "the port permutes otherwise");
     #[cfg(port)]
     assert_eq!(crate_sse::results(), port::results(), "the port's digests, ciphertexts or tags differ");
+    #[cfg(port)]
+    port::assert_fed_and_back();
 
     #[allow(unused_mut)]
     let mut forms: Vec<(&'static str, Vec<Thing>)> = vec![
@@ -84,5 +107,17 @@ fn main() {
         };
         let (sse, portable) = (beside("crate, SSE file, default"), beside("crate, portable"));
         println!("| {} | {} | {:.1} | {} | {} |", one.name, one.form, one.least, sse, portable);
+    }
+
+    #[cfg(port)]
+    {
+        let least = |name: &str| all.iter().find(|one| one.form == "port" && one.name == name).map(|one| one.least);
+        println!("\n| what, of the port | ns | beside | ns | ratio |");
+        println!("|---|---|---|---|---|");
+        for (name, base) in port::BESIDE {
+            if let (Some(one), Some(other)) = (least(name), least(base)) {
+                println!("| {name} | {one:.1} | {base} | {other:.1} | {:.2} |", one / other);
+            }
+        }
     }
 }

@@ -80,5 +80,22 @@ pub fn things() -> Vec<Thing> {
             from.clone().aead_decrypt_in_place_detached(black_box(&mut buffer), &its_tag).unwrap();
         }));
     }
+    for name in ["absorb 4080", "squeeze 4080"] {
+        let (from, mut data) = (start.clone(), vec![7; 4080]);
+        all.push(thing(name.into(), move || {
+            let mut session = from.clone();
+            match name {
+                "absorb 4080" => session.absorb(black_box(&data)),
+                _ => session.squeeze(black_box(&mut data)),
+            }
+            black_box(&session);
+        }));
+    }
+    let mut data = vec![7; 4080];
+    all.push(thing("hash squeeze 4080".into(), move || {
+        let mut session = XoodyakHash::new();
+        session.squeeze(black_box(&mut data));
+        black_box(&session);
+    }));
     all
 }

@@ -1,2 +1,4 @@
--- The walk that the exported functions' proofs cite.
+-- The walks that the exported functions' proofs cite.
 pub mod Walk
+pub mod Portions
+pub mod Steps

@@ -14,6 +14,7 @@ use Rattle.xoodyak.specs.declared.feed.Kind.{Kind}
 use Rattle.xoodyak.specs.declared.feed.Kind.the-variants.{Seal, Open}
 use Rattle.xoodyak.specs.declared.Session.{Session}
 use Rattle.xoodyak.specs.Calls.{Outcome, both}
+use Rattle.xoodyak.specs.Feed.{Portion}
 
 -- ---- the six numbers: mode, phase, rule, whether a message is begun, its kind, its place
 abbrev pub modeOf : ℕ → Mode
@@ -62,6 +63,10 @@ sound head =
     both (ltb (getD head 0 0) 2)
     (both (ltb (getD head 1 0) 2) (both (ltb (getD head 2 0) 2) (both (ltb (getD head 3 0) 2) (ltb (getD head 4 0) 2))))
 
+-- and so is a number beside the head, of a kind or of a phase
+unfoldable pub soundWith : List ℕ → ℕ → Bool
+soundWith head n = both (sound head) (ltb n 2)
+
 abbrev pub sessionOf : List ℕ → List ℕ → Session
 sessionOf st head = record {
   duplex = record { st = st; mode = modeOf (getD head 0 0); phase = phaseOf (getD head 1 0) };
@@ -94,5 +99,26 @@ answered true st head bytes tag x =
 answered false st head bytes tag x = record { number = 40; st = st; head = head; bytes = bytes; tag = tag }
 
 -- a call on the caller's session, with the lent buffer and the tag as they are at entry; empty where a call has none
-unfoldable pub exported : List ℕ → List ℕ → List ℕ → List ℕ → (Session → Outcome) → Exported
-exported st head bytes tag call = answered (sound head) st head bytes tag (call (sessionOf st head))
+unfoldable pub exportedIf : Bool → List ℕ → List ℕ → List ℕ → List ℕ → (Session → Outcome) → Exported
+exportedIf ok st head bytes tag call = answered ok st head bytes tag (call (sessionOf st head))
+
+abbrev pub exported : List ℕ → List ℕ → List ℕ → List ℕ → (Session → Outcome) → Exported
+exported st head bytes tag call = exportedIf (sound head) st head bytes tag call
+
+-- ---- the same of a message handed over bit by bit, with the counts: bytes missing, bytes taken, permutations spent
+pub record ExportedPortion : Type 0 where
+  pub number : ℕ
+  pub st : List ℕ
+  pub head : List ℕ
+  pub bytes : List ℕ
+  pub tag : List ℕ
+  pub counts : List ℕ
+
+abbrev pub answeredPortion : Bool → List ℕ → List ℕ → List ℕ → List ℕ → List ℕ → Portion → ExportedPortion
+answeredPortion true st head bytes tag counts x =
+    record { number = x .number; st = x .session .duplex .st; head = headOf (x .session); bytes = x .bytes; tag = x .tag; counts = x .missing ∷ x .taken ∷ x .spent ∷ [] }
+answeredPortion false st head bytes tag counts x =
+    record { number = 40; st = st; head = head; bytes = bytes; tag = tag; counts = counts }
+
+unfoldable pub exportedPortion : Bool → List ℕ → List ℕ → List ℕ → List ℕ → List ℕ → (Session → Portion) → ExportedPortion
+exportedPortion ok st head bytes tag counts call = answeredPortion ok st head bytes tag counts (call (sessionOf st head))

@@ -1,2 +1,3 @@
 -- What a reader must believe of the exported functions.
 pub mod Capi
+pub mod Back

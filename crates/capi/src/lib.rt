@@ -1,4 +1,6 @@
 // The port for C and Rust: exported functions over the caller's memory.
+pub mod back;
+pub mod feed;
 pub mod session;
 
 ghost use mathlib.Core.Path.{_≡_};

@@ -3,7 +3,7 @@
 ghost use mathlib.Core.Path.{_≡_};
 ghost use mathlib.Core.List.{[]};
 ghost use Rattle.xoodyak.specs.Calls.{absorbOf, squeezeOf, encryptInPlaceOf, decryptInPlaceOf, sealInPlaceDetachedOf, openInPlaceDetachedOf, sealDetachedOf, openDetachedOf};
-ghost use Rattle.capi.specs.Capi.{modeOf, phaseOf, ruleOf, begunOf, kindOf, modeNo, phaseNo, ruleNo, begunNo, kindNo, sound, sessionOf, headOf, exported};
+ghost use Rattle.capi.specs.Capi.{modeOf, phaseOf, ruleOf, begunOf, kindOf, modeNo, phaseNo, ruleNo, begunNo, kindNo, sound, soundWith, sessionOf, headOf, exported};
 use xoodyak::Rule;
 use xoodyak::Session;
 use xoodyak::cyclist::Duplex;
@@ -13,7 +13,7 @@ use xoodyak::feed::Kind;
 use xoodyak::feed::Message;
 use xoodyak::tag::Tag;
 
-fn mode_of(n: u8) -> Mode
+pub(crate) fn mode_of(n: u8) -> Mode
     ensures { λ r. ⌜ r ≡ modeOf n ⌝ }
 {
     match n {
@@ -22,7 +22,7 @@ fn mode_of(n: u8) -> Mode
     }
 }
 
-fn phase_of(n: u8) -> Phase
+pub(crate) fn phase_of(n: u8) -> Phase
     ensures { λ r. ⌜ r ≡ phaseOf n ⌝ }
 {
     match n {
@@ -31,7 +31,7 @@ fn phase_of(n: u8) -> Phase
     }
 }
 
-fn rule_of(n: u8) -> Rule
+pub(crate) fn rule_of(n: u8) -> Rule
     ensures { λ r. ⌜ r ≡ ruleOf n ⌝ }
 {
     match n {
@@ -49,7 +49,7 @@ fn begun_of(n: u8) -> bool
     }
 }
 
-fn kind_of(n: u8) -> Kind
+pub(crate) fn kind_of(n: u8) -> Kind
     ensures { λ r. ⌜ r ≡ kindOf n ⌝ }
 {
     match n {
@@ -100,7 +100,7 @@ fn kind_no(kind: Kind) -> u8
     }
 }
 
-fn sound(head: [u8; 6]) -> bool
+pub(crate) fn sound(head: [u8; 6]) -> bool
     ensures { λ r. ⌜ r ≡ sound head ⌝ }
 {
     if 2 <= head[0] {
@@ -118,7 +118,17 @@ fn sound(head: [u8; 6]) -> bool
     head[4] < 2
 }
 
-fn session_of(st: [u8; 48], head: [u8; 6]) -> Session
+// The same with a number beside the head, of a kind or of a phase.
+pub(crate) fn sound_with(head: [u8; 6], n: u8) -> bool
+    ensures { λ r. ⌜ r ≡ soundWith head n ⌝ }
+{
+    if sound(head) {
+        return n < 2;
+    }
+    false
+}
+
+pub(crate) fn session_of(st: [u8; 48], head: [u8; 6]) -> Session
     ensures { λ r. ⌜ r ≡ sessionOf st head ⌝ }
 {
     let mode = mode_of(head[0]);
@@ -141,7 +151,7 @@ fn session_of(st: [u8; 48], head: [u8; 6]) -> Session
     }
 }
 
-fn head_of(s: Session) -> [u8; 6]
+pub(crate) fn head_of(s: Session) -> [u8; 6]
     ensures { λ r. ⌜ r ≡ headOf s ⌝ }
 {
     let d = s.duplex;

@@ -129,6 +129,20 @@ use Rattle.walkback.proofs.seal.Reads as back-seal
 use Rattle.walkback.proofs.seal.Kinds as back-seal-k
 use Rattle.walkback.proofs.phase_after.Reads as back-phase-after
 use Rattle.walkback.proofs.phase_after.Kinds as back-phase-after-k
+use Rattle.capi.proofs.feed.lafomeihu_begin.Reads as c-begin
+use Rattle.capi.proofs.feed.lafomeihu_begin.Kinds as c-begin-k
+use Rattle.capi.proofs.feed.lafomeihu_feed.Reads as c-feed
+use Rattle.capi.proofs.feed.lafomeihu_feed.Kinds as c-feed-k
+use Rattle.capi.proofs.feed.lafomeihu_finish_seal.Reads as c-finish-seal
+use Rattle.capi.proofs.feed.lafomeihu_finish_seal.Kinds as c-finish-seal-k
+use Rattle.capi.proofs.feed.lafomeihu_finish_open.Reads as c-finish-open
+use Rattle.capi.proofs.feed.lafomeihu_finish_open.Kinds as c-finish-open-k
+use Rattle.capi.proofs.back.lafomeihu_back_absorb.Reads as c-back-absorb
+use Rattle.capi.proofs.back.lafomeihu_back_absorb.Kinds as c-back-absorb-k
+use Rattle.capi.proofs.back.lafomeihu_back_squeeze.Reads as c-back-squeeze
+use Rattle.capi.proofs.back.lafomeihu_back_squeeze.Kinds as c-back-squeeze-k
+use Rattle.capi.proofs.back.lafomeihu_back_seal.Reads as c-back-seal
+use Rattle.capi.proofs.back.lafomeihu_back_seal.Kinds as c-back-seal-k
 use Rattle.capi.proofs.lafomeihu_xoodoo_permute.Reads as c-xoodoo-permute
 use Rattle.capi.proofs.lafomeihu_xoodoo_permute.Kinds as c-xoodoo-permute-k
 use Rattle.capi.proofs.lafomeihu_xoodoo_inverse.Reads as c-xoodoo-inverse
@@ -375,3 +389,24 @@ c-seal-in-place-detached-decided κs a x x′ e e′ = fivefold
 
 pub c-seal-detached-decided : Decides 5 c-seal-detached-k.ps c-seal-detached-k.r c-seal-detached.Post (λ κs x x′ e e′. (x ≡ x′) × ((e .0 .now ≡ e′ .0 .now) × ((e .1 .0 .now ≡ e′ .1 .0 .now) × ((e .1 .1 .0 .now ≡ e′ .1 .1 .0 .now) × (e .1 .1 .1 .1 .0 .now ≡ e′ .1 .1 .1 .1 .0 .now)))))
 c-seal-detached-decided κs a x x′ e e′ = fivefold
+
+pub c-begin-decided : Decides 2 c-begin-k.ps c-begin-k.r c-begin.Post (λ κs x x′ e e′. (x ≡ x′) × ((e .0 .now ≡ e′ .0 .now) × (e .1 .0 .now ≡ e′ .1 .0 .now)))
+c-begin-decided κs a x x′ e e′ = thrice
+
+pub c-feed-decided : Decides 5 c-feed-k.ps c-feed-k.r c-feed.Post (λ κs x x′ e e′. (x ≡ x′) × ((e .0 .now ≡ e′ .0 .now) × ((e .1 .0 .now ≡ e′ .1 .0 .now) × ((e .1 .1 .1 .0 .now ≡ e′ .1 .1 .1 .0 .now) × (e .1 .1 .1 .1 .1 .1 .0 .now ≡ e′ .1 .1 .1 .1 .1 .1 .0 .now)))))
+c-feed-decided κs a x x′ e e′ = fivefold
+
+pub c-finish-seal-decided : Decides 4 c-finish-seal-k.ps c-finish-seal-k.r c-finish-seal.Post (λ κs x x′ e e′. (x ≡ x′) × ((e .0 .now ≡ e′ .0 .now) × ((e .1 .0 .now ≡ e′ .1 .0 .now) × ((e .1 .1 .0 .now ≡ e′ .1 .1 .0 .now) × (e .1 .1 .1 .0 .now ≡ e′ .1 .1 .1 .0 .now)))))
+c-finish-seal-decided κs a x x′ e e′ = fivefold
+
+pub c-finish-open-decided : Decides 4 c-finish-open-k.ps c-finish-open-k.r c-finish-open.Post (λ κs x x′ e e′. (x ≡ x′) × ((e .0 .now ≡ e′ .0 .now) × ((e .1 .0 .now ≡ e′ .1 .0 .now) × (e .1 .1 .1 .0 .now ≡ e′ .1 .1 .1 .0 .now))))
+c-finish-open-decided κs a x x′ e e′ = fourfold
+
+pub c-back-absorb-decided : Decides 3 c-back-absorb-k.ps c-back-absorb-k.r c-back-absorb.Post (λ κs x x′ e e′. (x ≡ x′) × ((e .0 .now ≡ e′ .0 .now) × (e .1 .0 .now ≡ e′ .1 .0 .now)))
+c-back-absorb-decided κs a x x′ e e′ = thrice
+
+pub c-back-squeeze-decided : Decides 2 c-back-squeeze-k.ps c-back-squeeze-k.r c-back-squeeze.Post (λ κs x x′ e e′. (x ≡ x′) × ((e .0 .now ≡ e′ .0 .now) × (e .1 .0 .now ≡ e′ .1 .0 .now)))
+c-back-squeeze-decided κs a x x′ e e′ = thrice
+
+pub c-back-seal-decided : Decides 3 c-back-seal-k.ps c-back-seal-k.r c-back-seal.Post (λ κs x x′ e e′. (x ≡ x′) × ((e .0 .now ≡ e′ .0 .now) × (e .1 .0 .now ≡ e′ .1 .0 .now)))
+c-back-seal-decided κs a x x′ e e′ = thrice
