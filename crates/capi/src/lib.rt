@@ -5,7 +5,7 @@ pub mod session;
 
 ghost use mathlib.Core.Path.{_≡_};
 ghost use Rattle.xoodoo.specs.Xoodoo as x;
-use xoodoo::Xoodoo;
+use xoodoo::words::inverse_bytes;
 use xoodoo::words::permute_bytes;
 
 #[no_mangle]
@@ -19,8 +19,5 @@ pub extern "C" fn lafomeihu_xoodoo_permute(st: &mut [u8; 48])
 pub extern "C" fn lafomeihu_xoodoo_inverse(st: &mut [u8; 48])
     ensures { λ _. ⌜ now (st .exit) ≡ x.inverse (now (st .entry)) ⌝ }
 {
-    let b = *st;
-    let before = Xoodoo::from_bytes(b).inverse();
-    let out = before.st;
-    *st = out;
+    inverse_bytes(st);
 }

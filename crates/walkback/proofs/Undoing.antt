@@ -8,14 +8,14 @@ use lib.ListN.{length, getD, take, drop, length-drop, length-append, List·getD-
 use lib.Seq.{length-take-le, take-length, take-all, take-append-add, getD-append-add, getD-append-seam}
 use Rattle.laws.specs.Lists.{addFront, addAt}
 use Rattle.laws.specs.Blocks.{cuts, sizes}
-use Rattle.laws.proofs.Lists.{addFront-step}
+use Rattle.laws.proofs.Lists.{addFront-nil, addFront-step}
 use Rattle.laws.proofs.Blocks.{cuts-step, cuts-nil, blocks-step, sizes-step, sizes-zero, sub-min}
 use Rattle.laws.proofs.BlocksBack.{turn-back}
 use Rattle.xoodyak.specs.declared.cyclist.Mode.{Mode}
 use Rattle.xoodyak.specs.declared.cyclist.Mode.the-variants.{Hash, Keyed}
 use Rattle.xoodyak.specs.declared.cyclist.Phase.{Phase}
 use Rattle.xoodyak.specs.declared.cyclist.Phase.the-variants.{Down}
-use Rattle.xoodyak.specs.Cyclist.{absorbRate, squeezeRate, chosen}
+use Rattle.xoodyak.specs.Cyclist.{absorbRate, squeezeRate, downColour, downBytes, chosen}
 use Rattle.xoodyak.proofs.Turns.{rate-pos}
 use Rattle.walkback.specs.Steps.{Step, upStep, downStep, undoes, undo, blockSteps, readySteps, absorbBlockSteps, absorbSteps, nextSteps, squeezeMoreSteps, squeezeSteps}
 use Rattle.walkback.specs.Walk.{ifSteps, keyRun, keySteps}
@@ -37,6 +37,11 @@ undo-append m (s ∷ ss) ts st = ap (undoes m s) (undo-append m ss ts st)
 
 pub append-undone : (m : Mode) (ss ts : List Step) (st b a : List ℕ) → b ≡ undo m ts st → a ≡ undo m ss b → a ≡ undo m (ss ++ ts) st
 append-undone m ss ts st b a eb ea = ea ∙ ap (undo m ss) eb ∙ sym (undo-append m ss ts st)
+
+-- an empty block is padding alone
+pub padding-undone : (m : Mode) (cd : ℕ) (st : List ℕ) → addAt (addAt st 0 1) 47 (downColour m cd) ≡ undoes m (downStep [] cd) st
+unfolding undoes downBytes
+padding-undone m cd st = ap (λ l. addAt (addAt l 0 1) 47 (downColour m cd)) (sym (addFront-nil st))
 
 -- ---- blocks
 -- the colour of the block after bs: cu where it is the first

@@ -1,6 +1,8 @@
-// Lent runs of bytes: measured and chosen.
+// Lent runs of bytes: measured, chosen and added.
 ghost use mathlib.Core.Path.{_≡_};
 ghost use Prim.Native.Nat.{_+_, _-_, _%_, _<_, min};
+ghost use lib.ListN.{length};
+ghost use Rattle.laws.specs.Lists.{addFront};
 ghost use Rattle.xoodyak.specs.Cyclist.{given, chosen};
 
 pub(crate) fn least(a: usize, b: usize) -> usize
@@ -29,4 +31,16 @@ pub(crate) fn choose<'a>(has_id: bool, id: &'a [u8], nonce: &'a [u8]) -> &'a [u8
     ensures { λ r. ⌜ now r ≡ chosen «has_id» (now (id .entry)) (now (nonce .entry)) ⌝ }
 {
     if has_id { id } else { nonce }
+}
+
+// x is added at byte 0.
+pub(crate) fn add_run(st: &mut [u8; 48], x: &[u8])
+    requires { ⌜ length (now x) < 48 ⌝ }
+    ensures { λ _. ⌜ now (st .exit) ≡ addFront (now (st .entry)) (now (x .entry)) ⌝ }
+{
+    let mut i = 0;
+    while i < x.len() {
+        st[i] = st[i] ^ x[i];
+        i += 1;
+    }
 }

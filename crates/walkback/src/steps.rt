@@ -1,4 +1,4 @@
-// The steps of a call undone, the last one first.
+// The steps of a call undone, the last one first. A step works where the bytes lie, so that a loop makes no copy of them.
 ghost use mathlib.Core.Path.{_≡_};
 ghost use mathlib.Core.List.{[], _∷_};
 ghost use Prim.Native.Nat.{_+_, _≤_, _<_};
@@ -8,26 +8,27 @@ ghost use Rattle.laws.specs.Blocks.{cuts};
 ghost use Rattle.xoodyak.specs.Cyclist.{downColour, messageBlocks};
 ghost use Rattle.walkback.specs.Steps.{upStep, downStep, undoes, undo, blockSteps, readySteps, absorbSteps, squeezeSteps, squeezeMoreSteps};
 ghost use Rattle.walkback.specs.Walk.{keyRun, keySteps};
+use crate::bytes::add_run;
 use crate::bytes::choose;
 use crate::bytes::last_block;
 use crate::bytes::least;
 use crate::numbers::is_empty_block;
 use crate::numbers::squeeze_rate;
 use xoodoo::Xoodoo;
+use xoodoo::words::inverse_bytes;
 use xoodyak::Rule;
 use xoodyak::cyclist::Mode;
 use xoodyak::cyclist::Phase;
 
 // Up with cu: the inverse permutation, and the colour again.
-pub(crate) fn undo_up(st: [u8; 48], mode: Mode, cu: u8) -> [u8; 48]
-    ensures { λ r. ⌜ r ≡ undoes mode (upStep cu) st ⌝ }
+fn undo_up(st: &mut [u8; 48], mode: Mode, cu: u8)
+    ensures { λ _. ⌜ now (st .exit) ≡ undoes mode (upStep cu) (now (st .entry)) ⌝ }
 {
-    let x = Xoodoo::from_bytes(st).inverse();
+    inverse_bytes(st);
     match mode {
-        Mode::Hash => x.st,
+        Mode::Hash => {}
         Mode::Keyed => {
-            let y = x.add_byte(cu, 47).state;
-            y.st
+            st[47] = st[47] ^ cu;
         }
     }
 }
@@ -42,50 +43,53 @@ fn down_colour(mode: Mode, cd: u8) -> u8
 }
 
 // The padding of a Down whose run of n bytes is added already: 01 at byte n, and the colour at byte 47.
-fn undo_padding(x: Xoodoo, mode: Mode, n: usize, cd: u8) -> [u8; 48]
+fn undo_padding(st: &mut [u8; 48], mode: Mode, n: usize, cd: u8)
     requires { ⌜ n < 48 ⌝ }
-    ensures { λ r. ⌜ r ≡ addAt (addAt (x .st) n 1) 47 (downColour mode cd) ⌝ }
+    ensures { λ _. ⌜ now (st .exit) ≡ addAt (addAt (now (st .entry)) n 1) 47 (downColour mode cd) ⌝ }
 {
     let colour = down_colour(mode, cd);
-    let a = x.add_byte(1, n).state;
-    let b = a.add_byte(colour, 47).state;
-    b.st
+    st[n] = st[n] ^ 1;
+    st[47] = st[47] ^ colour;
 }
 
 // Down undoes itself.
-pub(crate) fn undo_down(st: [u8; 48], mode: Mode, x: &[u8], cd: u8) -> [u8; 48]
+fn undo_down(st: &mut [u8; 48], mode: Mode, x: &[u8], cd: u8)
     requires { ⌜ length (now x) < 48 ⌝ }
-    ensures { λ r. ⌜ r ≡ undoes mode (downStep (now (x .entry)) cd) st ⌝ }
+    ensures { λ _. ⌜ now (st .exit) ≡ undoes mode (downStep (now (x .entry)) cd) (now (st .entry)) ⌝ }
 {
-    let a = Xoodoo::from_bytes(st).add_bytes(x).state;
-    undo_padding(a, mode, x.len(), cd)
+    add_run(st, x);
+    undo_padding(st, mode, x.len(), cd);
 }
 
 // Up(0, 00) if the phase isn't Up.
-pub(crate) fn undo_ready(st: [u8; 48], mode: Mode, phase: Phase) -> [u8; 48]
+fn undo_ready(st: [u8; 48], mode: Mode, phase: Phase) -> [u8; 48]
     ensures { λ r. ⌜ r ≡ undo mode (readySteps phase) st ⌝ }
 {
     match phase {
         Phase::Up => st,
-        Phase::Down => undo_up(st, mode, 0),
+        Phase::Down => {
+            let mut b = st;
+            undo_up(&mut b, mode, 0);
+            b
+        }
     }
 }
 
 // Up with cu and Down with one block.
-pub(crate) fn undo_block(st: [u8; 48], mode: Mode, x: &[u8], cu: u8) -> [u8; 48]
+fn undo_block(st: &mut [u8; 48], mode: Mode, x: &[u8], cu: u8)
     requires { ⌜ length (now x) < 48 ⌝ }
-    ensures { λ r. ⌜ r ≡ undo mode (blockSteps cu (now (x .entry) ∷ [])) st ⌝ }
+    ensures { λ _. ⌜ now (st .exit) ≡ undo mode (blockSteps cu (now (x .entry) ∷ [])) (now (st .entry)) ⌝ }
 {
-    let b = undo_down(st, mode, x, 0);
-    undo_up(b, mode, cu)
+    undo_down(st, mode, x, 0);
+    undo_up(st, mode, cu);
 }
 
 // Down(empty, 00) and Up with 00.
-pub(crate) fn undo_next(st: [u8; 48], mode: Mode) -> [u8; 48]
-    ensures { λ r. ⌜ r ≡ undo mode (downStep [] 0 ∷ upStep 0 ∷ []) st ⌝ }
+fn undo_next(st: &mut [u8; 48], mode: Mode)
+    ensures { λ _. ⌜ now (st .exit) ≡ undo mode (downStep [] 0 ∷ upStep 0 ∷ []) (now (st .entry)) ⌝ }
 {
-    let b = undo_up(st, mode, 0);
-    undo_down(b, mode, b"", 0)
+    undo_up(st, mode, 0);
+    undo_padding(st, mode, 0, 0);
 }
 
 // All blocks of a run, cu being the colour of the first.
@@ -101,8 +105,7 @@ pub(crate) fn undo_blocks(st: [u8; 48], mode: Mode, bin: &[u8], rate: usize, cu:
         let i = left - k;
         let e = i + k;
         let colour = if i == 0 { cu } else { 0 };
-        let before = undo_block(b, mode, &bin[i..e], colour);
-        b = before;
+        undo_block(&mut b, mode, &bin[i..e], colour);
         left = left - k;
     }
     b
@@ -113,7 +116,9 @@ pub(crate) fn undo_message(st: [u8; 48], rule: Rule, mode: Mode, plaintext: &[u8
     ensures { λ r. ⌜ r ≡ undo mode (blockSteps 0x80 (messageBlocks rule (now (plaintext .entry)))) st ⌝ }
 {
     if is_empty_block(rule, plaintext.len()) {
-        return undo_block(st, mode, plaintext, 0x80);
+        let mut b = st;
+        undo_block(&mut b, mode, plaintext, 0x80);
+        return b;
     }
     undo_blocks(st, mode, plaintext, 24, 0x80)
 }
@@ -130,9 +135,9 @@ pub(crate) fn undo_absorb(
     ensures { λ r. ⌜ r ≡ undo mode (absorbSteps phase rate cd (now (bin .entry))) st ⌝ }
 {
     let k = least(rate, bin.len());
-    let b = undo_blocks(st, mode, &bin[k..], rate, 0);
-    let d = undo_down(b, mode, &bin[..k], cd);
-    undo_ready(d, mode, phase)
+    let mut b = undo_blocks(st, mode, &bin[k..], rate, 0);
+    undo_down(&mut b, mode, &bin[..k], cd);
+    undo_ready(b, mode, phase)
 }
 
 pub(crate) fn undo_squeeze_more(st: [u8; 48], mode: Mode, n: usize) -> [u8; 48]
@@ -142,8 +147,7 @@ pub(crate) fn undo_squeeze_more(st: [u8; 48], mode: Mode, n: usize) -> [u8; 48]
     let mut b = st;
     let mut left = n;
     while 0 < left {
-        let before = undo_next(b, mode);
-        b = before;
+        undo_next(&mut b, mode);
         left = left - least(rate, left);
     }
     b
@@ -155,8 +159,8 @@ pub(crate) fn undo_squeeze(st: [u8; 48], mode: Mode, n: usize, cu: u8) -> [u8; 4
 {
     let rate = squeeze_rate(mode);
     let more = n - least(rate, n);
-    let b = undo_squeeze_more(st, mode, more);
-    let before = undo_up(b, mode, cu);
+    let mut before = undo_squeeze_more(st, mode, more);
+    undo_up(&mut before, mode, cu);
     before
 }
 
@@ -203,6 +207,7 @@ pub(crate) fn undo_key<'a>(
     };
     let t = choose(has_id, id, nonce);
     let n = key.len() + t.len() + 1;
-    let d = undo_padding(add_key(b, key, t), mode, n, 0x02);
+    let mut d = add_key(b, key, t).st;
+    undo_padding(&mut d, mode, n, 0x02);
     undo_ready(d, mode, phase)
 }

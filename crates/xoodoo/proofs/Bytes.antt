@@ -122,7 +122,7 @@ word-at-back b i h l =
     let n : 4 ≤ length (drop i b) = omega (arith, length-drop i b) in
     bytes-back _ _ _ _ (lt i) (lt (i + 1)) (lt (i + 2)) (lt (i + 3)) ∙ sym (four (drop i b) n ∙ simp (getD-drop, add-zero))
 
-pub plane-at-back : (b : List ℕ) (i : ℕ) → All 256 b → i + 16 ≤ length b → planeBytes (planeAt b i) ≡ take 16 (drop i b)
+plane-at-back : (b : List ℕ) (i : ℕ) → All 256 b → i + 16 ≤ length b → planeBytes (planeAt b i) ≡ take 16 (drop i b)
 unfolding planeAt planeBytes
 plane-at-back b i h l =
     rw (

@@ -6,7 +6,7 @@ use Rattle.laws.specs.Words.{rotl}
 use Rattle.xoodoo.specs.Xoodoo.{each, _⊞_, ups, parity, effect, addPlanes, theta, spread, step, unparity, untheta}
 use Rattle.xoodoo.specs.declared.round.Plane.{Plane}
 use Rattle.xoodoo.specs.declared.round.State.{State}
-use Rattle.xoodoo.proofs.Planes.{state≡, Words, Good, plane-sum, ⊞-assoc, ⊞-self, ⊞-none, ⊞-cancel, ⊞-words, rotls-is, mix, mix-words, mix-⊞, mix-mix, mix-swap, mix-is, mix-4, mix-8, mix-16, mix-32}
+use Rattle.xoodoo.proofs.Planes.{state≡, Words, Good, plane-sum, ⊞-assoc, ⊞-self, ⊞-none, ⊞-cancel, ⊞-words, rots, rots-words, rots-⊞, rots-rots, rots-mod, rots-zero, rotls-is, mix, mix-words, mix-⊞, mix-mix, mix-swap, mix-is, mix-4, mix-8, mix-16, mix-32}
 
 -- ---- a state whose parity becomes f of what it was
 pub by : (Plane → Plane) → State → State
@@ -134,6 +134,51 @@ more-unparity h =
       more-swap 1 5 14 2 10 28,
     )
     (all-32 h)
+
+-- ---- the last three steps at once
+step-words : (m i j : ℕ) {p : Plane} → i ≤ 32 → j ≤ 32 → Words p → Words (step m i j p)
+step-words m i j hi hj h = rw (step-is m i j hi hj h) (more-words m i j h)
+
+-- a step in its own column
+still : (i j : ℕ) {p : Plane} → i ≤ 32 → j ≤ 32 → Words p → step 0 i j p ≡ p ⊞ (rots i p ⊞ rots j p)
+unfolding step spread ups
+still i j hi hj h = rw (rotls-is i hi h, rotls-is j hj h)
+
+-- of the nine rotations that they add, by 16, 36, 40, 24, 44, 48, 32, 52 and 56, two pairs are alike modulo 32
+nine : {p : Plane} → Words p → (q : Plane) → q ≡ p ⊞ (rots 20 p ⊞ rots 24 p)
+    → rots 16 (q ⊞ (rots 8 q ⊞ rots 16 q)) ≡ (p ⊞ rots 4 p) ⊞ rots 8 (p ⊞ rots 4 p) ⊞ rots 20 p
+nine {p} h q e =
+    let e4 : rots 36 p ≡ rots 4 p = rots-mod 36 h in
+    let e8 : rots 40 p ≡ rots 8 p = rots-mod 40 h in
+    let e12 : rots 44 p ≡ rots 12 p = rots-mod 44 h in
+    let e16 : rots 48 p ≡ rots 16 p = rots-mod 48 h in
+    let e0 : rots 32 p ≡ p = rots-mod 32 h ∙ rots-zero p in
+    let e20 : rots 52 p ≡ rots 20 p = rots-mod 52 h in
+    let e24 : rots 56 p ≡ rots 24 p = rots-mod 56 h in
+    let s : rots 16 p ⊞ (rots 4 p ⊞ rots 8 p) ⊞ (rots 24 p ⊞ (rots 12 p ⊞ rots 16 p) ⊞ (p ⊞ (rots 20 p ⊞ rots 24 p)))
+    ≡ p ⊞ rots 4 p ⊞ (rots 8 p ⊞ rots 12 p) ⊞ rots 20 p =
+    simp plane-sum in
+    rw e (simp (rots-⊞, rots-rots) (rw (e4, e8, e12, e16, e0, e20, e24) s))
+
+-- rotations by 0, 4, 8, 12 and 20, added in three sums
+abbrev pub five : Plane → Plane
+five p = (p ⊞ each (rotl 4) p) ⊞ each (rotl 8) (p ⊞ each (rotl 4) p) ⊞ each (rotl 20) p
+
+last-three : {p : Plane} → Words p → each (rotl 16) (step 0 8 16 (step 0 20 24 p)) ≡ five p
+last-three {p} h =
+    let q : Plane = step 0 20 24 p in
+    let e : q ≡ p ⊞ (rots 20 p ⊞ rots 24 p) = still 20 24 (omega arith) (omega arith) h in
+    let w : Words q = step-words 0 20 24 (omega arith) (omega arith) h in
+    let v : Words (p ⊞ rots 4 p) = ⊞-words h (rots-words 4 h) in
+    rotls-is 16 (omega arith) (step-words 0 8 16 (omega arith) (omega arith) w)
+    ∙ ap (rots 16) (still 8 16 (omega arith) (omega arith) w)
+    ∙ nine h q e
+    ∙ sym (rw (rotls-is 4 (omega arith) h, rotls-is 8 (omega arith) v, rotls-is 20 (omega arith) h))
+
+pub unparity-five : {p : Plane} → Words p → unparity p ≡ five (step 2 10 28 (step 1 5 14 p))
+unfolding unparity
+unparity-five h =
+    last-three (step-words 2 10 28 (omega arith) (omega arith) (step-words 1 5 14 (omega arith) (omega arith) h))
 
 -- ---- the inverse
 pub untheta-good : {s : State} → Good s → Good (untheta s)

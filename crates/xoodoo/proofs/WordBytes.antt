@@ -1,18 +1,13 @@
--- The bytes of words: what is added to the words is added to their bytes, and a block's words have its bytes.
+-- The bytes of words: what is added to the words is added to their bytes.
 use mathlib.Core.Path.{_≡_, refl, ap₂, _∙_}
 use mathlib.Core.List.{List, [], _∷_, _++_}
-use Prim.Native.Nat.{ℕ, _+_, _*_, _/_, _^_, _<_, _≤_}
+use Prim.Native.Nat.{ℕ, _*_, _/_, _^_, _<_}
 use native.Mathlib.Omega.{arith}
 use lib.Bits.{xor-mod, xor-shr}
-use lib.ListN.{length, take, drop}
 use Rattle.laws.specs.Words.{_⊕_}
-use Rattle.laws.specs.Lists.{All, addFront, addAt}
+use Rattle.laws.specs.Lists.{addFront, addAt}
 use Rattle.laws.proofs.Words.{⊕-zero}
-use Rattle.xoodoo.specs.Xoodoo.{byteOf, wordBytes, planeBytes}
-use Rattle.xoodoo.specs.Words.{sixBytes, elevenBytes, sixAt, elevenAt}
-use Rattle.xoodoo.specs.declared.words.Six.{Six}
-use Rattle.xoodoo.specs.declared.words.Eleven.{Eleven}
-use Rattle.xoodoo.proofs.Bytes.{join, word-at-back, plane-at-back}
+use Rattle.xoodoo.specs.Xoodoo.{byteOf, wordBytes}
 
 byte-⊕ : (v w k : ℕ) → byteOf (v ⊕ w) k ≡ byteOf v k ⊕ byteOf w k
 unfolding byteOf _⊕_
@@ -54,44 +49,3 @@ high-byte v b h =
     let w : ℕ = b * 2 ^ 24 in
     ap₂ _∷_ (stays v w 0 (omega arith))
     (ap₂ _∷_ (stays v w 8 (omega arith)) (ap₂ _∷_ (stays v w 16 (omega arith)) (ap₂ _∷_ (gets v w 24 b (omega arith)) refl)))
-
--- ---- blocks of 24 and of 44 bytes
-pub six-size : (x : Six) → length (sixBytes x) ≡ 24
-unfolding sixBytes wordBytes
-six-size x = refl
-
-pub eleven-size : (x : Eleven) → length (elevenBytes x) ≡ 44
-unfolding elevenBytes planeBytes wordBytes
-eleven-size x = refl
-
-pub six-at-back : (b : List ℕ) (i : ℕ) → All 256 b → i + 24 ≤ length b → sixBytes (sixAt b i) ≡ take 24 (drop i b)
-unfolding sixAt sixBytes
-six-at-back b i h l =
-    rw (
-      word-at-back b i h (omega arith),
-      word-at-back b (i + 4) h (omega arith),
-      word-at-back b (i + 8) h (omega arith),
-      word-at-back b (i + 12) h (omega arith),
-      word-at-back b (i + 16) h (omega arith),
-      word-at-back b (i + 20) h (omega arith),
-      join b i 4 (i + 4) 4 refl,
-      join b i 8 (i + 8) 4 refl,
-      join b i 12 (i + 12) 4 refl,
-      join b i 16 (i + 16) 4 refl,
-      join b i 20 (i + 20) 4 refl,
-    )
-
-pub eleven-at-back : (b : List ℕ) (i : ℕ) → All 256 b → i + 44 ≤ length b → elevenBytes (elevenAt b i) ≡ take 44 (drop i b)
-unfolding elevenAt elevenBytes
-eleven-at-back b i h l =
-    rw (
-      plane-at-back b i h (omega arith),
-      plane-at-back b (i + 16) h (omega arith),
-      word-at-back b (i + 32) h (omega arith),
-      word-at-back b (i + 36) h (omega arith),
-      word-at-back b (i + 40) h (omega arith),
-      join b i 16 (i + 16) 16 refl,
-      join b i 32 (i + 32) 4 refl,
-      join b i 36 (i + 36) 4 refl,
-      join b i 40 (i + 40) 4 refl,
-    )

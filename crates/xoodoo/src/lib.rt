@@ -12,6 +12,7 @@ pub mod words;
 use crate::round::rounds;
 use crate::unround::unrounds;
 use crate::words::from_words;
+use crate::words::inverse_bytes;
 use crate::words::load;
 use crate::words::permute_bytes;
 
@@ -147,6 +148,8 @@ impl Xoodoo {
     pub fn inverse(self) -> Xoodoo
         ensures { λ r. ⌜ r ≡ record { st = xoodoo.inverse (self .st) } ⌝ }
     {
-        self.unrounds(12).state
+        let mut before = self.st;
+        inverse_bytes(&mut before);
+        Xoodoo { st: before }
     }
 }

@@ -14,23 +14,23 @@ use crate::round::rotated4;
 use crate::round::up;
 use crate::round::xor4;
 
-// The plane rotated by i, xor the plane rotated by j.
+// The plane rotated by i, xor the plane rotated by j: first apart by what j has more, then both by i, which takes a copy less.
 fn spread(i: u32, j: u32, p: Plane) -> Plane
-    requires { ⌜ (0 < i) × (i < 32) × (0 < j) × (j < 32) ⌝ }
+    requires { ⌜ (0 < i) × (i < j) × (j < 32) ⌝ }
     ensures { λ r. ⌜ r ≡ xoodoo.spread i j p ⌝ }
 {
-    xor4(rotated4(p, i), rotated4(p, j))
+    rotated4(xor4(p, rotated4(p, j - i)), i)
 }
 
-// The parity before theta, from the one after it: each step is worth twice as many thetas as the one before.
+// The parity before theta, from the one after it. The definition's last three steps together add rotations by 0, 4, 8, 12 and 20.
 fn unparity(p: Plane) -> Plane
     ensures { λ r. ⌜ r ≡ xoodoo.unparity p ⌝ }
 {
     let a = xor4(p, up(spread(5, 14, p)));
     let b = xor4(a, up(up(spread(10, 28, a))));
-    let c = xor4(b, spread(20, 24, b));
-    let d = xor4(c, spread(8, 16, c));
-    rotated4(d, 16)
+    let c = xor4(b, rotated4(b, 4));
+    let d = xor4(c, rotated4(c, 8));
+    xor4(d, rotated4(b, 20))
 }
 
 // Theta is undone on the parity alone.

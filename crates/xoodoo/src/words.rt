@@ -5,12 +5,13 @@ ghost use Prim.Native.Nat.{_+_, _<_, _≤_};
 ghost use lib.ListN.{length, take};
 ghost use lib.Seq.{sets};
 ghost use Rattle.laws.specs.Lists.{addFront, addAt};
-ghost use Rattle.xoodoo.specs.Xoodoo.{wordOf, wordAt, planeAt, fromBytes, byteOf, wordBytes, planeBytes, toBytes, xoodoo};
+ghost use Rattle.xoodoo.specs.Xoodoo.{wordOf, wordAt, planeAt, fromBytes, byteOf, wordBytes, planeBytes, toBytes, xoodoo, inverse};
 ghost use Rattle.xoodoo.specs.Words.{sixBytes, elevenBytes};
 use crate::frame::twelve_rounds;
 use crate::round::Plane;
 use crate::round::State;
 use crate::round::xor4;
+use crate::unround::unrounds;
 
 // The words of a block of 24 bytes; a plane has those of 16.
 pub struct Six {
@@ -106,13 +107,20 @@ fn put_plane(b: &mut [u8; 48], at: usize, p: Plane)
     put_word(b, at + 12, p.x3);
 }
 
+fn put_state(b: &mut [u8; 48], s: State)
+    requires { ⌜ length (now b) ≡ 48 ⌝ }
+    ensures { λ _. ⌜ now (b .exit) ≡ toBytes s ⌝ }
+{
+    put_plane(b, 0, s.p0);
+    put_plane(b, 16, s.p1);
+    put_plane(b, 32, s.p2);
+}
+
 pub fn from_words(s: State) -> [u8; 48]
     ensures { λ r. ⌜ r ≡ toBytes s ⌝ }
 {
     let mut b = [0u8; 48];
-    put_plane(&mut b, 0, s.p0);
-    put_plane(&mut b, 16, s.p1);
-    put_plane(&mut b, 32, s.p2);
+    put_state(&mut b, s);
     b
 }
 
@@ -128,9 +136,21 @@ pub fn permute_bytes(st: &mut [u8; 48])
     ensures { λ _. ⌜ now (st .exit) ≡ xoodoo (now (st .entry)) ⌝ }
 {
     let s = permuted(*st);
-    put_plane(st, 0, s.p0);
-    put_plane(st, 16, s.p1);
-    put_plane(st, 32, s.p2);
+    put_state(st, s);
+}
+
+fn inverted(b: [u8; 48]) -> State
+    ensures { λ r. ⌜ (length b ≡ 48) × (toBytes r ≡ inverse b) ⌝ }
+{
+    unrounds(12, load(&b))
+}
+
+// Alike, where the bytes lie.
+pub fn inverse_bytes(st: &mut [u8; 48])
+    ensures { λ _. ⌜ now (st .exit) ≡ inverse (now (st .entry)) ⌝ }
+{
+    let s = inverted(*st);
+    put_state(st, s);
 }
 
 // By way of the bytes, so that the rounds stand at one place in a program.

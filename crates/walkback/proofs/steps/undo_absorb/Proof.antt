@@ -36,11 +36,11 @@ undo-ready-requires c κs = search needs
 
 returns : tie.Need-returns
 returns c =
-    let a = c .before .before .before .before .before .before .before .args in
-    let k = c .before .before .before .before .before .least .result in
+    let a = c .before .before .before .before .before .before .before .before .args in
+    let k = c .before .before .before .before .before .before .least .result in
     let g : length (drop k (now (a .bin))) ≤ length (now (a .bin)) - k = rw length-drop (omega arith) in
     absorb-undone (a .mode) (a .phase) (a .rate) k (a .cd) (now (a .bin)) (a .st) _ _ _ (omega arith) (omega arith)
-    (rw (take-all (length (now (a .bin)) - k) (drop k (now (a .bin))) g) at (c .before .before .before .undo-blocks .ensures))
+    (rw (take-all (length (now (a .bin)) - k) (drop k (now (a .bin))) g) at (c .before .before .before .before .undo-blocks .ensures))
     (c .before .undo-down .ensures)
     (c .undo-ready .ensures)
 

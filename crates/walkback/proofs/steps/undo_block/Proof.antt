@@ -12,7 +12,7 @@ undo-up-requires c κs = search needs
 
 returns : tie.Need-returns
 unfolding undo blockSteps
-returns c = rw (c .undo-up .ensures, c .before .undo-down .ensures)
+returns c = rw (c .undo-up .ensures, c .before .before .undo-down .ensures)
 
 pub undo-block-spec : {M : Type 1} → statement M
 undo-block-spec = tie.close (tie.spec undo-down-requires undo-up-requires returns)

@@ -59,35 +59,35 @@ sub-undo-block : tie.Need-sub-undo-block Inv-loop μ-loop
 sub-undo-block c = search needs
 
 part-undo-block-start : tie.Need-part-undo-block-start Inv-loop μ-loop
-part-undo-block-start c = omega (arith, size (c .before))
+part-undo-block-start c = omega (arith, size (c .before .before))
 
 part-undo-block-end : tie.Need-part-undo-block-end Inv-loop μ-loop
-part-undo-block-end c = omega (arith, size (c .before))
+part-undo-block-end c = omega (arith, size (c .before .before))
 
 undo-block-requires : tie.Need-undo-block-requires Inv-loop μ-loop
-undo-block-requires c κs = simp length-take (omega (arith, size (c .before .before)))
+undo-block-requires c κs = simp length-take (omega (arith, size (c .before .before .before)))
 
 sub-left : tie.Need-sub-left Inv-loop μ-loop
-sub-left c = omega (arith, size (c .before .before .before))
+sub-left c = omega (arith, size (c .before .before .before .before))
 
 loop-less : tie.Need-loop-less Inv-loop μ-loop
-loop-less c = omega (arith, size (c .before .before .before))
+loop-less c = omega (arith, size (c .before .before .before .before))
 
 loop-again : tie.Need-loop-again Inv-loop μ-loop
 loop-again c =
-    let l = c .before .before .before .before .before in
+    let l = c .before .before .before .before .before .before in
     let a = l .before .before .args in
     let e = l .loop .left in
-    let k = c .before .before .before .last-block .result in
+    let k = c .before .before .before .before .last-block .result in
     let i = e - k in
-    let h = size (c .before .before .before) in
-    let u = c .before .before .if1 .colour in
+    let h = size (c .before .before .before .before) in
+    let u = c .before .before .before .if1 .colour in
     let q : i + k - i ≡ e - i = omega arith in (
       omega arith,
       ap (undo (a .mode) (blockSteps (a .cu) (cuts (a .rate) (take i (now (a .bin))))))
           (c .undo-block .ensures ∙ ap (λ n. undo (a .mode) (blockSteps u (take n (drop i (now (a .bin))) ∷ [])) (l .loop .b)) q)
           ∙ undo-turn (a .mode) (a .cu) (a .rate) i e u (now (a .bin)) (l .loop .b) (omega arith) (omega arith) (omega arith)
-          (ap (λ n. e - n) (c .before .before .before .last-block .ensures)) (colour (c .before .before))
+          (ap (λ n. e - n) (c .before .before .before .before .last-block .ensures)) (colour (c .before .before .before))
           ∙ l .loop .inv .1,
     )
 

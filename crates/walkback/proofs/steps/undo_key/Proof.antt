@@ -6,7 +6,8 @@ use native.Mathlib.Omega.{arith}
 use denote.Ref.{now}
 use lib.ListN.{length}
 use Rattle.xoodyak.specs.declared.cyclist.Phase.the-variants.{Down}
-use Rattle.xoodyak.specs.Cyclist.{downBytes, chosen}
+use Rattle.laws.specs.Lists.{addAt}
+use Rattle.xoodyak.specs.Cyclist.{downColour, downBytes, chosen}
 use Rattle.walkback.specs.Steps.{downStep, undoes, undo, absorbSteps}
 use Rattle.walkback.specs.Walk.{ifSteps, keyRun}
 use Rattle.walkback.proofs.Undoing.{if-true, if-false, key-undone, absorb-one, length-run, chosen-length}
@@ -48,8 +49,8 @@ add-key-requires c κs =
 
 undo-padding-requires : tie.Need-undo-padding-requires
 undo-padding-requires c κs =
-    let a = c .before .before .before .before .before .before .before .before .args in
-    omega (arith, chosen-length (a .has-id) (now (a .id)) (now (a .nonce)), ap length (c .before .choose .ensures))
+    let a = c .before .before .before .before .before .before .before .before .before .before .args in
+    omega (arith, chosen-length (a .has-id) (now (a .id)) (now (a .nonce)), ap length (c .before .before .before .choose .ensures))
 
 undo-ready-requires : tie.Need-undo-ready-requires
 undo-ready-requires c κs = search needs
@@ -57,16 +58,18 @@ undo-ready-requires c κs = search needs
 returns : tie.Need-returns
 unfolding undoes downBytes
 returns c =
-    let j = c .before .before .before .before in
+    let k = c .before .before .before .before in
+    let t = k .before .choose .result in
+    let j = k .before .before in
     let a = j .before .before .before .before .before .before .args in
     let run = keyRun (now (a .key)) (chosen (a .has-id) (now (a .id)) (now (a .nonce))) in
     let l : length run ≡ length (now (a .key)) + length (chosen (a .has-id) (now (a .id)) (now (a .nonce))) + 1 = length-run _ _ in
-    let d : c .before .undo-padding .result ≡ undoes (a .mode) (downStep run 2) (j .if2 .b) =
-    c .before .undo-padding .ensures ∙ rw (c .before .before .add-key .ensures, c .before .before .before .choose .ensures, l) in
+    let d : addAt (addAt (k .add-key .result .st) (length (now (a .key)) + length (now t) + 1) 1) 47 (downColour (a .mode) 2) ≡ undoes (a .mode) (downStep run 2) (j .if2 .b) =
+    rw (k .add-key .ensures, k .before .choose .ensures, l) in
     key-undone (a .mode) (a .phase) (now (a .key)) (now (a .id)) (now (a .nonce)) (now (a .counter)) (a .has-id) (a .has-counter) (a .st) _ _ _
     (counter-undone (j .before)) (nonce-undone j)
     (absorb-one (a .mode) (a .phase) 2 run (j .if2 .b) _ _
-    (omega (arith, chosen-length (a .has-id) (now (a .id)) (now (a .nonce)))) d (c .undo-ready .ensures))
+    (omega (arith, chosen-length (a .has-id) (now (a .id)) (now (a .nonce)))) (c .before .undo-padding .ensures ∙ d) (c .undo-ready .ensures))
 
 pub undo-key-spec : {M : Type 1} → statement M
 undo-key-spec =

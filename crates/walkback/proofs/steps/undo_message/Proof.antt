@@ -10,15 +10,15 @@ use Rattle.walkback.proofs.steps.undo_message.Tie as tie
 
 undo-block-requires : tie.Need-undo-block-requires
 undo-block-requires c κs =
-    let a = c .before .before .before .args in
-    let e = message-empty (a .rule) (now (a .plaintext)) (sym (c .before .is-empty-block .ensures) ∙ c .if1 .taken) in
+    let a = c .before .before .before .before .args in
+    let e = message-empty (a .rule) (now (a .plaintext)) (sym (c .before .before .is-empty-block .ensures) ∙ c .before .if1 .taken) in
     let l : length (now (a .plaintext)) ≡ 0 = ap length (e .1) in
     omega arith
 
 returns : tie.Need-returns
 returns c =
-    let a = c .before .before .before .before .args in
-    let e = message-empty (a .rule) (now (a .plaintext)) (sym (c .before .before .is-empty-block .ensures) ∙ c .before .if1 .taken) in
+    let a = c .before .before .before .before .before .args in
+    let e = message-empty (a .rule) (now (a .plaintext)) (sym (c .before .before .before .is-empty-block .ensures) ∙ c .before .before .if1 .taken) in
     c .undo-block .ensures ∙ rw (e .0, e .1)
 
 returns-2 : tie.Need-returns-2

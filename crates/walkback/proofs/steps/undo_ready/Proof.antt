@@ -19,7 +19,7 @@ returns c = rw (c .enum-told .given .1)
 
 returns-2 : tie.Need-returns-2
 unfolding undo
-returns-2 c = rw (c .undo-up .ensures, c .before .enum-told2 .given .1)
+returns-2 c = rw (c .undo-up .ensures, c .before .before .enum-told2 .given .1)
 
 pub undo-ready-spec : {M : Type 1} → statement M
 undo-ready-spec = tie.close (tie.spec enum-told enum-told-2 undo-up-requires returns returns-2)

@@ -31,11 +31,11 @@ sub-left : tie.Need-sub-left Inv-loop μ-loop
 sub-left c = search needs
 
 loop-less : tie.Need-loop-less Inv-loop μ-loop
-loop-less c = omega (arith, rate-pos (c .before .before .before .before .before .args .mode))
+loop-less c = omega (arith, rate-pos (c .before .before .before .before .before .before .args .mode))
 
 loop-again : tie.Need-loop-again Inv-loop μ-loop
 loop-again c =
-    let l = c .before .before .before in
+    let l = c .before .before .before .before in
     let m = l .before .before .args .mode in
     let k = c .least .result in
     ap (λ s. undo m (squeezeMoreSteps m (l .loop .left - k)) s) (c .before .undo-next .ensures)

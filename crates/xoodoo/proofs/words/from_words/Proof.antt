@@ -1,13 +1,10 @@
--- Three planes, one after the other, are all 48 bytes.
-use mathlib.Core.Path.{refl}
-use lib.ListN.{replicate}
+-- The state's bytes are put over 48 zeros.
 use borrow.Author.Needs.{needs}
-use Rattle.xoodoo.proofs.Bytes.{stored}
 use Rattle.xoodoo.proofs.words.from_words.Statement.{statement}
 use Rattle.xoodoo.proofs.words.from_words.Tie as tie
 
 returns : tie.Need-returns
-returns c = cc (stored (replicate 48 0) (c .before .before .before .before .before .before .args .s) refl)
+returns c = c .put-state .ensures
 
 pub from-words-spec : {M : Type 1} → statement M
-from-words-spec = tie.close (tie.spec (λ c κs. search needs) (λ c κs. search needs) (λ c κs. search needs) returns)
+from-words-spec = tie.close (tie.spec (λ c κs. search needs) returns)
