@@ -24,7 +24,7 @@ use Rattle.xoodyak.specs.declared.cyclist.Duplex.{Duplex}
 use Rattle.xoodyak.specs.declared.Rule.{Rule}
 use Rattle.xoodyak.specs.declared.Rule.the-variants.{Crate, Specification}
 use Rattle.xoodyak.specs.declared.Session.{Session}
-use Rattle.xoodyak.specs.Cyclist.{squeezeRate, upBytes, up, down, readyFrom, ready, absorbBlocks, absorb, moreBlocks, absorbMore, next, nextsEnd, nextsOut, squeezeMoreEnd, squeezeMoreOut, squeezeEnd, squeezeOut, messageBlocks, encEnd, encOut, decEnd, decOut, ratchet, ifGiven, keyCall}
+use Rattle.xoodyak.specs.Cyclist.{squeezeRate, upBytes, up, down, readyFrom, ready, absorbBlocks, absorb, next, nextsEnd, nextsOut, squeezeMoreEnd, squeezeMoreOut, squeezeEnd, squeezeOut, messageBlocks, encEnd, encOut, decEnd, decOut}
 use Rattle.xoodyak.specs.Numbers.{when, first, unfinishedNumber, modeNumber, keyedNumber}
 use Rattle.xoodyak.specs.Shares.{messageShare, sealShare}
 use Rattle.xoodyak.specs.Calls.{mode, encryptEnd, encryptOut, encryptUps, decryptEnd, decryptOut, decryptUps, both, sameBytes, tagNumber, verdict, opened, openUps, sealUps, tagEnd, tagOut}
@@ -66,15 +66,6 @@ pub absorb-mode : (r cd : ℕ) (d : Duplex) (x : List ℕ) → absorb r cd d x .
 unfolding absorb
 absorb-mode r cd d x = absorb-blocks-mode _ cd d
 
-more-blocks-mode : (bs : List (List ℕ)) (d : Duplex) → moreBlocks bs d .mode ≡ d .mode
-unfolding moreBlocks
-more-blocks-mode [] d = refl
-more-blocks-mode (b ∷ bs) d = more-blocks-mode bs _ ∙ step-mode d 0 b 0
-
-pub absorb-more-mode : (r : ℕ) (d : Duplex) (x : List ℕ) → absorbMore r d x .mode ≡ d .mode
-unfolding absorbMore
-absorb-more-mode r d x = more-blocks-mode _ d
-
 next-mode : (d : Duplex) → next d .mode ≡ d .mode
 unfolding next
 next-mode d = up-mode (down d [] 0) 0 ∙ down-mode d [] 0
@@ -101,21 +92,6 @@ pub decrypt-mode : (bs : List (List ℕ)) (cu : ℕ) (d : Duplex) → decEnd bs 
 unfolding decEnd
 decrypt-mode [] cu d = refl
 decrypt-mode (b ∷ bs) cu d = decrypt-mode bs 0 _ ∙ step-mode d cu _ 0
-
-pub ratchet-mode : (d : Duplex) → ratchet d .mode ≡ d .mode
-unfolding ratchet
-ratchet-mode d = absorb-mode 16 0 _ _ ∙ squeeze-mode d 16 0x10
-
-given-mode : (b : Bool) (r cd : ℕ) (a d : Duplex) (x : List ℕ) → a .mode ≡ d .mode → ifGiven b (absorb r cd a x) a .mode ≡ d .mode
-given-mode true r cd a d x p = absorb-mode r cd a x ∙ p
-given-mode false r cd a d x p = p
-
-pub key-mode :
-    (d : Duplex) (key : List ℕ) (hasId : Bool) (id nonce : List ℕ) (hasCounter : Bool) (counter : List ℕ)
-    → keyCall d key hasId id nonce hasCounter counter .mode ≡ d .mode
-unfolding keyCall
-key-mode d key hasId id nonce hasCounter counter =
-    given-mode hasCounter 1 0 _ d counter (given-mode hasId 44 0 _ d nonce (absorb-mode 44 2 d _))
 
 -- ---- lengths
 -- adding nothing changes nothing
@@ -224,7 +200,7 @@ dec-length =
     (λ m k h e ih cu d. ap length (dec-out-step m k h e cu d) ∙ rw (length-append, first-length m k h e cu d, ih, length-drop) (omega arith))
 
 -- what holds of the blocks that are cut, and of one empty block, holds of a message's blocks under either rule
-pub by-rule :
+by-rule :
     (P : List ℕ → List (List ℕ) → Type 0) → ((m : List ℕ) → P m (cuts 24 m)) → P [] ([] ∷ [])
     → (rule : Rule) (m : List ℕ) → P m (messageBlocks rule m)
 unfolding messageBlocks blocks

@@ -1,22 +1,20 @@
 -- Laws of feeding: what the allowances let through, wherever it was cut, makes the steps of the message's blocks.
-use mathlib.Core.Path.{_≡_, refl, sym, ap, ap₂, _∙_}
+use mathlib.Core.Path.{_≡_, refl, sym, ap, _∙_}
 use mathlib.Core.Bool.{Bool, true, false}
-use mathlib.Core.List.{List, [], _∷_, _++_, append-assoc}
+use mathlib.Core.List.{List, [], _∷_, _++_}
 use mathlib.Core.Logic.{_⊎_, inl, inr}
 use Prim.Native.Nat.{ℕ, zero, suc, _+_, _-_, _*_, _<_, _≤_, min}
 use native.Mathlib.Nat.{not-suc-le-zero, le-of-suc-le-suc, le-refl}
 use native.Mathlib.Omega.{arith}
 use lib.Dec.{leb, ltb, lit<, lit≤}
-use lib.ListN.{length, getD, set, take, drop, length-append, length-drop, take-append-drop}
-use lib.Seq.{set-at, getD-at, length-take-le}
+use lib.ListN.{length, take, drop, length-drop, take-append-drop}
+use lib.Seq.{length-take-le}
 use borrow.Author.Tests.{lt-ltb, ltb-true, ltb-false, le-leb, leb-true, leb-false, le-ltb}
-use Rattle.laws.specs.Words.{_⊕_, _⊙_}
 use Rattle.laws.specs.Lists.{addFront, addAt}
 use Rattle.laws.specs.Blocks.{cuts, blocks, sizes}
-use Rattle.laws.proofs.Lists.{addFront-nil, length-addFront}
 use Rattle.laws.proofs.Blocks.{cuts-step, cuts-nil}
 use Rattle.xoodyak.specs.declared.cyclist.Mode.{Mode}
-use Rattle.xoodyak.specs.declared.cyclist.Mode.the-variants.{Hash, Keyed}
+use Rattle.xoodyak.specs.declared.cyclist.Mode.the-variants.{Keyed}
 use Rattle.xoodyak.specs.declared.cyclist.Phase.{Phase}
 use Rattle.xoodyak.specs.declared.cyclist.Phase.the-variants.{Down}
 use Rattle.xoodyak.specs.declared.cyclist.Duplex.{Duplex}
@@ -25,7 +23,9 @@ use Rattle.xoodyak.specs.declared.Rule.the-variants.{Crate, Specification}
 use Rattle.xoodyak.specs.declared.feed.Kind.{Kind}
 use Rattle.xoodyak.specs.declared.feed.Kind.the-variants.{Seal, Open}
 use Rattle.xoodyak.specs.Cyclist.{downColour, downBytes, up, down, messageBlocks, encEnd, encOut, decEnd, decOut}
-use Rattle.xoodyak.specs.Feed.{isOpen, closeBlock, openBlock, plainOf, put, wrote, runEnd, runOut, Progress, stands, upsBefore, placeIn, blockFor, andThen, within, feed, endBlock, endUps}
+use Rattle.xoodyak.specs.Feed.{isOpen, closeBlock, openBlock, put, wrote, runEnd, runOut, Progress, stands, upsBefore, placeIn, blockFor, andThen, within, feed, endBlock, endUps}
+use Rattle.xoodyak.proofs.BlockWords.{down-zero}
+use Rattle.xoodyak.proofs.Runs.{text, text-length, run-out, run-end}
 use Rattle.walkback.specs.Steps.{Step, ups, blockSteps, nextSteps, squeezeMoreSteps, squeezeSteps}
 use Rattle.walkback.specs.Walk.{seals, steps}
 use Rattle.theorems.proofs.Crypt.{both-true, up-mode, up-length, add-zero-at, by-blocks, some-cuts}
@@ -119,64 +119,6 @@ run-is kind (b ∷ x) p d h g =
     ∙ ap (andThen 0 (wrote p b d)) (run-is kind x (suc p) e (omega arith) (omega arith))
     ∙ (λ i. record { duplex = runEnd kind (suc p) e x; place = q i; spent = 0; bytes = wrote p b d ∷ runOut kind (suc p) e x })
 
--- what goes into Down of a block that meets Up's answer
-abbrev pub text : Kind → List ℕ → List ℕ → List ℕ
-text Seal x answer = x
-text Open x answer = addFront x answer
-
-text-length : (kind : Kind) (x answer : List ℕ) → length (text kind x answer) ≡ length x
-text-length Seal x answer = refl
-text-length Open x answer = length-addFront x answer
-
--- the bytes of a run: those before its place stay
-module _ (m : Mode) (ph : Phase) where
-  abbrev holds : List ℕ → Duplex
-  holds st = record { st = st; mode = m; phase = ph }
-
-  put-at :
-      (kind : Kind) (pre : List ℕ) (a : ℕ) (rest : List ℕ) (p b : ℕ) → length pre ≡ p
-      → put kind p b (holds (pre ++ (a ∷ rest))) ≡ holds ((pre ++ ((a ⊕ plainOf kind b a) ∷ [])) ++ rest)
-  unfolding put
-  put-at kind pre a rest p b e =
-      let s = pre ++ (a ∷ rest) in
-      let v : getD s p 0 ⊕ plainOf kind b (getD s p 0) ≡ a ⊕ plainOf kind b a = ap (λ c. c ⊕ plainOf kind b c) (getD-at pre a rest 0 p e) in
-      ap holds (ap (set s p) v ∙ set-at pre a rest (a ⊕ plainOf kind b a) p e ∙ sym (append-assoc pre ((a ⊕ plainOf kind b a) ∷ []) rest))
-
-  run-out :
-      (kind : Kind) (x pre rest : List ℕ) (p : ℕ) → length pre ≡ p → length x ≤ length rest
-      → runOut kind p (holds (pre ++ rest)) x ≡ addFront x rest
-  unfolding runOut
-  run-out kind [] pre rest p e h = refl
-  run-out kind (b ∷ x) pre [] p e h = absurd (not-suc-le-zero h)
-  run-out kind (b ∷ x) pre (a ∷ rest) p e h =
-      let v = a ⊕ plainOf kind b a in
-      let l : length (pre ++ (v ∷ [])) ≡ suc p = length-append pre (v ∷ []) ∙ omega arith in
-      ap₂ _∷_ (ap (λ c. b ⊕ c) (getD-at pre a rest 0 p e))
-      (ap (λ d. runOut kind (suc p) d x) (put-at kind pre a rest p b e) ∙ run-out kind x (pre ++ (v ∷ [])) rest (suc p) l (le-of-suc-le-suc h))
-
-  text-nil : (kind : Kind) (rest : List ℕ) → addFront rest (text kind [] rest) ≡ rest
-  text-nil Seal rest = addFront-nil rest
-  text-nil Open rest = addFront-nil rest
-
-  text-cons :
-      (kind : Kind) (b a : ℕ) (x rest : List ℕ)
-      → addFront (a ∷ rest) (text kind (b ∷ x) (a ∷ rest)) ≡ (a ⊕ plainOf kind b a) ∷ addFront rest (text kind x rest)
-  text-cons Seal b a x rest = refl
-  text-cons Open b a x rest = refl
-
-  run-end :
-      (kind : Kind) (x pre rest : List ℕ) (p : ℕ) → length pre ≡ p → length x ≤ length rest
-      → runEnd kind p (holds (pre ++ rest)) x ≡ holds (pre ++ addFront rest (text kind x rest))
-  unfolding runEnd
-  run-end kind [] pre rest p e h = ap (λ l. holds (pre ++ l)) (sym (text-nil kind rest))
-  run-end kind (b ∷ x) pre [] p e h = absurd (not-suc-le-zero h)
-  run-end kind (b ∷ x) pre (a ∷ rest) p e h =
-      let v = a ⊕ plainOf kind b a in
-      let l : length (pre ++ (v ∷ [])) ≡ suc p = length-append pre (v ∷ []) ∙ omega arith in
-      ap (λ d. runEnd kind (suc p) d x) (put-at kind pre a rest p b e)
-      ∙ run-end kind x (pre ++ (v ∷ [])) rest (suc p) l (le-of-suc-le-suc h)
-      ∙ ap holds (append-assoc pre (v ∷ []) (addFront rest (text kind x rest)) ∙ ap (λ r. pre ++ r) (sym (text-cons kind b a x rest)))
-
 -- ---- a whole block, from Up on
 abbrev blockAt : Kind → Duplex → List ℕ → Progress
 blockAt kind e x = record {
@@ -201,11 +143,6 @@ block-is kind (b ∷ x) p d s h g l =
     ∙ (λ i. record { duplex = ee i; place = q i; spent = 1; bytes = eo i })
 
 -- closing it is what Down does after the block's bytes
-colour-zero : (m : Mode) → downColour m 0 ≡ 0
-unfolding _⊙_
-colour-zero Hash = refl
-colour-zero Keyed = refl
-
 closed :
     (kind : Kind) (e : Duplex) (x : List ℕ) → length x ≤ 24
     → closeBlock (blockAt kind e x .place) (blockAt kind e x .duplex) ≡ down e (text kind x (e .st)) 0
@@ -215,7 +152,7 @@ closed kind e x h =
     let s = addFront (e .st) (text kind x (e .st)) in
     let q : addAt s (min (length x) 24) 1 ≡ addAt (addAt s (length (text kind x (e .st))) 1) 47 (downColour (e .mode) 0) =
     ap (λ k. addAt s k 1) n
-    ∙ sym (ap (addAt (addAt s (length (text kind x (e .st))) 1) 47) (colour-zero (e .mode)) ∙ add-zero-at (addAt s (length (text kind x (e .st))) 1) 47) in
+    ∙ sym (ap (addAt (addAt s (length (text kind x (e .st))) 1) 47) (down-zero (e .mode)) ∙ add-zero-at (addAt s (length (text kind x (e .st))) 1) 47) in
     λ i. record { st = q i; mode = e .mode; phase = Down }
 
 -- ---- the blocks of a message, of either kind

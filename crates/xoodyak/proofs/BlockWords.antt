@@ -64,7 +64,7 @@ up-zero : (m : Mode) (s : List ℕ) → upColour m 0 s ≡ s
 up-zero Hash s = refl
 up-zero Keyed s = addAt-zero s 47
 
-down-zero : (m : Mode) → downColour m 0 ≡ 0
+pub down-zero : (m : Mode) → downColour m 0 ≡ 0
 unfolding _⊙_
 down-zero Hash = refl
 down-zero Keyed = refl

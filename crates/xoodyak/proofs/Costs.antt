@@ -19,7 +19,6 @@ use Rattle.xoodyak.specs.declared.cyclist.Duplex.{Duplex}
 use Rattle.xoodyak.specs.declared.Rule.{Rule}
 use Rattle.xoodyak.specs.declared.Rule.the-variants.{Crate, Specification}
 use Rattle.xoodyak.specs.declared.Session.{Session}
-use Rattle.xoodyak.specs.declared.Answer.{Answer}
 use Rattle.xoodyak.specs.Cyclist.{squeezeRate, upColour, upBytes, up, down, ready, absorbBlocks, absorb, nextsEnd, nextsOut, squeezeMoreEnd, squeezeMoreOut, squeezeEnd, squeezeOut, messageBlocks, chosen, ifGiven}
 use Rattle.xoodyak.specs.Ups.{readyUps, absorbBlocksUps, absorbUps, moreBlocksUps, absorbMoreUps, nextsUps, squeezeMoreUps, squeezeUps, encUps, decUps, ratchetUps, ifGivenUps, keyCallUps}
 use Rattle.xoodyak.specs.Shares.{lessUp, absorbShare, squeezeShare, messageShare, sealShare, chosenLength, keyShare}
@@ -220,10 +219,7 @@ module _ (d : Duplex) (key : List ℕ) (hasId : Bool) (id nonce : List ℕ) (has
       (ap₂ _+_ (ap (ifGivenUps hasId) (absorb-share 44 0 a nonce (lit< tt) ∙ ap (λ (p : Phase). absorbShare p 44 (length nonce)) ad))
       (ap (ifGivenUps hasCounter) (absorb-share 1 0 b counter (lit< tt) ∙ ap (λ (p : Phase). absorbShare p 1 (length counter)) bd)))
 
--- ---- a call's answer with its share, which the code made from a length n
-abbrev pub priced : Session → ℕ → ℕ → Answer
-priced s k u = record { session = s; number = k; missing = 0; spent = u }
-
+-- ---- a call's share, which the code made from a length n
 module _ (s : Session) (x : List ℕ) (u n : ℕ) (l : n ≡ length x) where
   pub encrypt-cost : u ≡ messageShare (s .rule) n → u ≡ encryptUps s x
   encrypt-cost e = e ∙ ap (messageShare (s .rule)) l ∙ sym (encrypt-share s x)

@@ -3,11 +3,11 @@ use mathlib.Core.Path.{_≡_, refl, sym, ap, _∙_}
 use mathlib.Core.Bool.{Bool, true, false}
 use mathlib.Core.List.{List, [], _∷_, _++_, append-assoc, append-nil}
 use Prim.Native.Nat.{ℕ, zero, suc, _+_, _-_, _<_, _≤_, min}
-use native.Mathlib.Nat.{not-suc-le-zero, add-zero, zero-add, add-suc, add-assoc, sub-zero}
+use native.Mathlib.Nat.{not-suc-le-zero, add-zero, zero-add, add-assoc, sub-zero}
 use native.Mathlib.Omega.{arith}
 use lib.Dec.{leb, ltb, lit<}
-use lib.ListN.{length, getD, set, take, drop, take-append-drop}
-use lib.Seq.{drop-cons, take-suc-set, length-take-le}
+use lib.ListN.{length, take, drop, take-append-drop}
+use lib.Seq.{length-take-le}
 use borrow.Author.Tests.{ltb-true, lt-ltb, le-leb}
 use borrow.Rule.Slice.PartMut.{putMid, post-is, drop-put}
 use Rattle.laws.proofs.Lists.{length-mid, take-put-end}
@@ -50,17 +50,6 @@ ups-few Crate zero = omega arith
 ups-few Specification zero = omega arith
 ups-few Crate (suc p) = omega arith
 ups-few Specification (suc p) = omega arith
-
--- ---- a byte of a run, from x into o
-module _ (kind : Kind) (p i : ℕ) (x : List ℕ) (d : Duplex) (h : i < length x) where
-  pub run-turn-end : runEnd kind (p + suc i) (put kind (p + i) (getD x i 0) d) (drop (suc i) x) ≡ runEnd kind (p + i) d (drop i x)
-  unfolding runEnd
-  run-turn-end = rw (add-suc, drop-cons x i 0)
-
-  pub run-turn-out : (o : List ℕ) → i < length o
-      → take (suc i) (set o i (wrote (p + i) (getD x i 0) d)) ++ runOut kind (p + suc i) (put kind (p + i) (getD x i 0) d) (drop (suc i) x) ≡ take i o ++ runOut kind (p + i) d (drop i x)
-  unfolding runOut
-  run-turn-out o g = rw (add-suc, take-suc-set o i (wrote (p + i) (getD x i 0) d), append-assoc, drop-cons x i 0)
 
 pub length-runOut : (kind : Kind) (p : ℕ) (d : Duplex) (x : List ℕ) → length (runOut kind p d x) ≡ length x
 unfolding runOut
@@ -122,21 +111,22 @@ module _ (going fits : Bool) (left a : ℕ) (e : going ≡ both (ltb 0 left) (le
   pub going-allowed : leb (upsBefore fits) a ≡ true
   going-allowed = both-split (ltb 0 left) _ (sym e ∙ g) .1
 
--- a turn goes from i to e: the Up steps u before it, the run from place q of the duplex t to t′, and y in the output o
-module _ (kind : Kind) (a p spent i e q u : ℕ) (fits : Bool) (d t t′ : Duplex) (x o o₀ y : List ℕ)
+-- a turn goes from i to e: the Up steps u before it, the run from place q to the duplex t, and y in the output o
+module _ (kind : Kind) (a p spent i e q u : ℕ) (fits : Bool) (d t : Duplex) (x o o₀ y : List ℕ)
     (ef : fits ≡ isOpen p) (h : i < length x) (g : leb (upsBefore fits) (a - spent) ≡ true) (lo : length x ≤ length o)
-    (eq : q ≡ placeIn fits p) (eu : u ≡ upsBefore fits) (et : t ≡ blockFor fits p d) (ee : e ≡ i + min (24 - q) (length x - i))
-    (et′ : t′ ≡ runEnd kind q t (take (e - i) (drop i x))) (ey : y ≡ runOut kind q t (take (e - i) (drop i x)))
+    (eq : q ≡ placeIn fits p) (eu : u ≡ upsBefore fits) (ee : e ≡ i + min (24 - q) (length x - i))
+    (et : t ≡ runEnd kind (placeIn fits p) (blockFor fits p d) (take (e - i) (drop i x)))
+    (ey : y ≡ runOut kind (placeIn fits p) (blockFor fits p d) (take (e - i) (drop i x)))
   where
     room : (i < e) × (e ≤ length x) × (placeIn fits p + (e - i) ≤ 24)
     room = let z = place-within fits p ef in (omega arith, omega arith, omega arith)
 
     len-y : length y ≡ e - i
-    len-y = let r = room in ap length ey ∙ length-runOut kind q t (take (e - i) (drop i x)) ∙ length-mid i e x (omega arith)
+    len-y = let r = room in ap length ey ∙ length-runOut kind (placeIn fits p) (blockFor fits p d) (take (e - i) (drop i x)) ∙ length-mid i e x (omega arith)
 
     pub feed-turned : drop i o ≡ drop i o₀
         → (drop e (putMid i (e - i) o y) ≡ drop e o₀)
-        × (past (spent + u) (take e (putMid i (e - i) o y)) (feed kind (a - (spent + u)) (q + (e - i)) t′ (drop e x)) ≡ past spent (take i o) (feed kind (a - spent) p d (drop i x)))
+        × (past (spent + u) (take e (putMid i (e - i) o y)) (feed kind (a - (spent + u)) (q + (e - i)) t (drop e x)) ≡ past spent (take i o) (feed kind (a - spent) p d (drop i x)))
     feed-turned s =
         let r = room in
         let b = take (e - i) (drop i x) in
@@ -144,7 +134,7 @@ module _ (kind : Kind) (a p spent i e q u : ℕ) (fits : Bool) (d t t′ : Duple
         let split : drop i x ≡ b ++ drop e x = sym (take-append-drop (e - i) (drop i x)) ∙ ap (λ (l : List ℕ). b ++ l) (past-i x) in
         let k : a - (spent + upsBefore fits) ≡ a - spent - upsBefore fits = omega arith in (
           drop-put i e o y (omega arith) (omega arith) len-y ∙ sym (past-i o) ∙ ap (drop (e - i)) s ∙ past-i o₀,
-          rw (take-put-end i e o y (omega arith) (omega arith) len-y, et′, ey, et, eq, eu, k)
+          rw (take-put-end i e o y (omega arith) (omega arith) len-y, et, ey, eq, eu, k)
               (sym
               (ap (past spent (take i o))
               (ap (feed kind (a - spent) p d) split

@@ -5,6 +5,7 @@ pub mod Message
 pub mod Same
 pub mod Settle
 pub mod Feeding
+pub mod Runs
 pub mod Sealing
 pub mod Costs
 pub mod CostsOfFeeds

@@ -1,23 +1,35 @@
 // A message handed over bit by bit: begin, feed within an allowance of permutations, finish.
 ghost use mathlib.Core.Path.{_≡_};
+ghost use mathlib.Core.Bool.{false};
 ghost use mathlib.Core.List.{_++_};
 ghost use Prim.Native.Nat.{_+_, _<_, _≤_};
 ghost use lib.Dec.{leb, ltb};
 ghost use lib.ListN.{length, drop};
+ghost use Rattle.xoodoo.specs.Xoodoo.{toBytes, xoodoo};
+ghost use Rattle.xoodyak.specs.declared.cyclist.Phase.the-variants.{Up};
 ghost use Rattle.xoodyak.specs.Cyclist.{squeezeOut};
 ghost use Rattle.xoodyak.specs.Calls.{answerOf, idle, both};
-ghost use Rattle.xoodyak.specs.Feed.{isOpen, upsBefore, placeIn, blockFor, plainOf, closeBlock, openBlock, runEnd, runOut, feed, endBlock, endUps, ended, pastTag, finishUps, fedOf, finishedOf, beginOf, feedOf, finishSealOf, finishOpenOf};
+ghost use Rattle.xoodyak.specs.Feed.{isOpen, upsBefore, placeIn, blockFor, closeBlock, openBlock, runEnd, runOut, feed, endBlock, endUps, ended, pastTag, finishUps, fedOf, finishedOf, beginOf, feedOf, finishSealOf, finishOpenOf};
 use crate::Answer;
 use crate::Rule;
 use crate::Session;
+use crate::bytes::copy_into;
 use crate::bytes::least;
 use crate::bytes::same_bytes;
+use crate::bytes::xor_into;
 use crate::cyclist::Duplex;
+use crate::cyclist::Mode;
 use crate::cyclist::Phase;
 use crate::numbers::first;
 use crate::numbers::missing;
 use crate::numbers::room_number;
 use crate::tag::Tag;
+use crate::words::open_whole;
+use crate::words::seal_whole;
+use xoodoo::round::State;
+use xoodoo::words::from_words;
+use xoodoo::words::pad24;
+use xoodoo::words::to_words;
 
 // What a message is handed over for.
 pub enum Kind {
@@ -98,15 +110,6 @@ fn goes_on(fits: bool, left: usize, allowance: usize) -> bool
     if fits { true } else { 1 <= allowance }
 }
 
-fn plain(kind: Kind, b: u8, answer: u8) -> u8
-    ensures { λ r. ⌜ r ≡ plainOf kind b answer ⌝ }
-{
-    match kind {
-        Kind::Seal => b,
-        Kind::Open => b ^ answer,
-    }
-}
-
 impl Duplex {
     fn close_block(self, place: usize) -> Duplex
         ensures { λ r. ⌜ r ≡ closeBlock place self ⌝ }
@@ -138,24 +141,88 @@ impl Duplex {
         ensures { λ r. ⌜ r ≡ runEnd kind place self (now (piece .entry)) ⌝ }
         ensures { λ _. ⌜ now (out .exit) ≡ runOut kind place self (now (piece .entry)) ⌝ }
     {
-        let mut d = self;
-        let n = piece.len();
-        let mut i = 0;
-        while i < n {
-            let j = place + i;
-            let b = piece[i];
-            let answer = d.st[j];
-            out[i] = b ^ answer;
-            d.st[j] = answer ^ plain(kind, b, answer);
-            i += 1;
+        let mut st = self.st;
+        let mode = self.mode;
+        let phase = self.phase;
+        let e = place + piece.len();
+        copy_into(out, piece);
+        xor_into(out, &st[place..e]);
+        match kind {
+            Kind::Seal => {
+                xor_into(&mut st[place..e], piece);
+                Duplex {
+                    st: st,
+                    mode: mode,
+                    phase: phase,
+                }
+            }
+            Kind::Open => {
+                xor_into(&mut st[place..e], out);
+                Duplex {
+                    st: st,
+                    mode: mode,
+                    phase: phase,
+                }
+            }
         }
-        d
     }
 
     fn block_for(self, fits: bool, place: usize) -> Duplex
         ensures { λ r. ⌜ r ≡ blockFor fits place self ⌝ }
     {
         if fits { self } else { self.open_block(place) }
+    }
+
+    // The words that the Up before a block permutes, where no block is open.
+    fn before_block(self, place: usize) -> State
+        requires { ⌜ isOpen place ≡ false ⌝ }
+        ensures { λ r. ⌜ xoodoo (toBytes r) ≡ openBlock place self .st ⌝ }
+    {
+        if place == 0 {
+            return self.coloured(0x80);
+        }
+        let st = self.st;
+        pad24(to_words(&st))
+    }
+
+    // The duplex after an Up that left these words.
+    fn after_up(v: State, mode: Mode) -> Duplex
+        ensures { λ r. ⌜ r ≡ record { st = toBytes v; mode = mode; phase = Up } ⌝ }
+    {
+        let st = from_words(v);
+        Duplex {
+            st: st,
+            mode: mode,
+            phase: Phase::Up,
+        }
+    }
+
+    // A whole block, in words from its Up on.
+    fn whole_block(self, kind: Kind, place: usize, out: &mut [u8], piece: &[u8]) -> Duplex
+        requires { ⌜ (length (now out) ≡ 24) × (length (now piece) ≡ 24) × (isOpen place ≡ false) ⌝ }
+        ensures { λ r. ⌜ r ≡ runEnd kind 0 (openBlock place self) (now (piece .entry)) ⌝ }
+        ensures { λ _. ⌜ now (out .exit) ≡ runOut kind 0 (openBlock place self) (now (piece .entry)) ⌝ }
+    {
+        let mode = self.mode;
+        let w = self.before_block(place);
+        match kind {
+            Kind::Seal => Duplex::after_up(seal_whole(w, out, piece), mode),
+            Kind::Open => Duplex::after_up(open_whole(w, out, piece), mode),
+        }
+    }
+
+    // A run of bytes inside one block, which is begun first where none is open.
+    fn stretch(self, kind: Kind, fits: bool, place: usize, out: &mut [u8], piece: &[u8]) -> Duplex
+        requires { ⌜ (length (now piece) ≡ length (now out)) × (placeIn fits place + length (now piece) ≤ 24) × (fits ≡ isOpen place) ⌝ }
+        ensures { λ r. ⌜ r ≡ runEnd kind (placeIn fits place) (blockFor fits place self) (now (piece .entry)) ⌝ }
+        ensures { λ _. ⌜ now (out .exit) ≡ runOut kind (placeIn fits place) (blockFor fits place self) (now (piece .entry)) ⌝ }
+    {
+        let n = piece.len();
+        if n == 24 {
+            return self.whole_block(kind, place, out, piece);
+        }
+        let q = place_in(fits, place);
+        self.block_for(fits, place).run(kind, q, out, piece)
     }
 
     // Run by run, each inside one block, while the allowance has the Up that the next byte needs.
@@ -182,9 +249,8 @@ impl Duplex {
         while going {
             let q = place_in(fits, p);
             let e = i + least(24 - q, n - i);
-            d = d.block_for(fits, p);
             spent = spent + ups_before(fits);
-            d = d.run(kind, q, &mut out[i..e], &piece[i..e]);
+            d = d.stretch(kind, fits, p, &mut out[i..e], &piece[i..e]);
             p = q + (e - i);
             i = e;
             fits = is_open(p);

@@ -50,12 +50,12 @@ inside c = let l = c .before in
     (omega arith, place-within _ _ (l .loop .inv .4))
 
 -- a turn takes a byte or more, no more than the piece and the block have, and spends what the allowance has
-turn : (u : tie.After-ups-before Inv-loop μ-loop) → let l = u .before .before .before .before .before in let m = u .before .before .least .result in (0 < m) × (l .loop .i + m ≤ length (X l)) × (u .before .before .before .place-in .result + m ≤ 24) × (l .loop .spent + u .ups-before .result ≤ l .before .before .before .before .before .args .allowance)
-turn u = let l = u .before .before .before .before .before in
-    let k = inside (u .before .before .before .before) in
-    let g : upsBefore (l .loop .fits) ≤ A l = leb-true _ _ (allowed (u .before .before .before .before)) in
-    let q = u .before .before .before .place-in .ensures in
-    let m = u .before .before .least .ensures in
+turn : (u : tie.After-ups-before Inv-loop μ-loop) → let l = u .before .before .before .before in let m = u .before .least .result in (0 < m) × (l .loop .i + m ≤ length (X l)) × (u .before .before .place-in .result + m ≤ 24) × (l .loop .spent + u .ups-before .result ≤ l .before .before .before .before .before .args .allowance)
+turn u = let l = u .before .before .before .before in
+    let k = inside (u .before .before .before) in
+    let g : upsBefore (l .loop .fits) ≤ A l = leb-true _ _ (allowed (u .before .before .before)) in
+    let q = u .before .before .place-in .ensures in
+    let m = u .before .least .ensures in
     (omega arith, omega arith, omega arith, omega arith)
 
 loop-holds : tie.Need-loop-holds Inv-loop μ-loop
@@ -73,32 +73,32 @@ add-e c = let k = inside (c .before .before) in omega (arith, c .least .ensures)
 add-spent : tie.Need-add-spent Inv-loop μ-loop
 add-spent c = let k = turn c in omega arith
 
-sub-run : tie.Need-sub-run Inv-loop μ-loop
-sub-run c = let k = turn c in omega arith
+sub-stretch : tie.Need-sub-stretch Inv-loop μ-loop
+sub-stretch c = let k = turn c in omega arith
 
-part-run-start : tie.Need-part-run-start Inv-loop μ-loop
-part-run-start c = let k = turn c in omega arith
+part-stretch-start : tie.Need-part-stretch-start Inv-loop μ-loop
+part-stretch-start c = let k = turn c in omega arith
 
-part-run-end : tie.Need-part-run-end Inv-loop μ-loop
-part-run-end c = let k = turn c in omega arith
+part-stretch-end : tie.Need-part-stretch-end Inv-loop μ-loop
+part-stretch-end c = let k = turn c in omega arith
 
-sub-run-2 : tie.Need-sub-run-2 Inv-loop μ-loop
-sub-run-2 c = let k = turn (c .before) in omega arith
+sub-stretch-2 : tie.Need-sub-stretch-2 Inv-loop μ-loop
+sub-stretch-2 c = let k = turn (c .before) in omega arith
 
-part-run-start-2 : tie.Need-part-run-start-2 Inv-loop μ-loop
-part-run-start-2 c = let k = turn (c .before) in omega arith
+part-stretch-start-2 : tie.Need-part-stretch-start-2 Inv-loop μ-loop
+part-stretch-start-2 c = let k = turn (c .before) in omega arith
 
-part-run-end-2 : tie.Need-part-run-end-2 Inv-loop μ-loop
-part-run-end-2 c = let k = turn (c .before) in omega arith
+part-stretch-end-2 : tie.Need-part-stretch-end-2 Inv-loop μ-loop
+part-stretch-end-2 c = let k = turn (c .before) in omega arith
 
-run-requires : tie.Need-run-requires Inv-loop μ-loop
-run-requires c κs = let l = c .before .before .before .before .before .before .before in
-    let e = l .loop .i + c .before .before .before .before .least .result in
+stretch-requires : tie.Need-stretch-requires Inv-loop μ-loop
+stretch-requires c κs = let l = c .before .before .before .before .before .before in
+    let e = l .loop .i + c .before .before .before .least .result in
     let k = turn (c .before .before) in
     let n = length-mid (l .loop .i) e (X l) (k .1) in
     let m = length-mid (l .loop .i) e (l .loop .out) (omega (arith, l .loop .inv .1, l .before .before .before .before .before .pre .0)) in
-    let f : c .before .before .before .before .before .place-in .result + (e - l .loop .i) ≤ 24 = omega (arith, k .2) in
-    (n ∙ sym m, rw n f)
+    let f : placeIn (l .loop .fits) (l .loop .p) + (e - l .loop .i) ≤ 24 = omega (arith, k .2, c .before .before .before .before .place-in .ensures) in
+    (n ∙ sym m, rw n f, l .loop .inv .4)
 
 sub-p : tie.Need-sub-p Inv-loop μ-loop
 sub-p c = let k = turn (c .before .before .before .before .before) in omega arith
@@ -117,22 +117,21 @@ loop-less c = let k = turn (c .before .before .before .before .before .before .b
 
 loop-again : tie.Need-loop-again Inv-loop μ-loop
 loop-again c = let u = c .before .before .before .before .before .before .before in
-    let l = u .before .before .before .before .before in
+    let l = u .before .before .before .before in
     let a = l .before .before .before .before .before .args in
     let v = l .loop .inv in
     let i = l .loop .i in
-    let e = i + u .before .before .least .result in
-    let q = u .before .before .before .place-in in
-    let t = u .before .block-for in
-    let r = c .before .before .before .before .run in
-    let y = r .last .1 .1 .1 .0 in
+    let e = i + u .before .least .result in
+    let q = u .before .before .place-in in
+    let r = c .before .before .before .before .stretch in
+    let y = r .last .1 .1 .1 .1 .0 in
     let k = turn u in
     let h : i < length (X l) = omega arith in
     let lo : length (X l) ≤ length (l .loop .out) = omega (arith, v .1, l .before .before .before .before .before .pre .0) in
-    let ee : e ≡ i + min (24 - q .result) (length (X l) - i) = omega (arith, u .before .before .least .ensures) in
-    let w = feed-turned (a .kind) (a .allowance) (l .loop .p) (l .loop .spent) i e (q .result) (u .ups-before .result) (l .loop .fits) (l .loop .d) (t .result) (r .result) (X l) (l .loop .out) (now (a .out)) y (v .4) h (allowed (u .before .before .before .before)) lo (q .ensures) (u .ups-before .ensures) (t .ensures) ee (r .ensures .0) (r .ensures .1) (v .6) in (
+    let ee : e ≡ i + min (24 - q .result) (length (X l) - i) = omega (arith, u .before .least .ensures) in
+    let w = feed-turned (a .kind) (a .allowance) (l .loop .p) (l .loop .spent) i e (q .result) (u .ups-before .result) (l .loop .fits) (l .loop .d) (r .result) (X l) (l .loop .out) (now (a .out)) y (v .4) h (allowed (u .before .before .before)) lo (q .ensures) (u .ups-before .ensures) ee (r .ensures .0) (r .ensures .1) (v .6) in (
       omega arith,
-      same-len-mid i (e - i) (l .loop .out) y (r .kept .1 .1 .1 .0) ∙ v .1,
+      same-len-mid i (e - i) (l .loop .out) y (r .kept .1 .1 .1 .1 .0) ∙ v .1,
       omega arith,
       omega arith,
       c .before .is-open2 .ensures,
@@ -169,15 +168,14 @@ feed-spec =
     (λ c κs. search needs)
     add-e
     (λ c κs. search needs)
-    (λ c κs. search needs)
     add-spent
-    sub-run
-    part-run-start
-    part-run-end
-    sub-run-2
-    part-run-start-2
-    part-run-end-2
-    run-requires
+    sub-stretch
+    part-stretch-start
+    part-stretch-end
+    sub-stretch-2
+    part-stretch-start-2
+    part-stretch-end-2
+    stretch-requires
     sub-p
     add-p
     (λ c κs. search needs)

@@ -1,91 +1,71 @@
--- The bytes written, then what the rest gives from the duplex now, are what the whole run gives from the start.
-use mathlib.Core.Path.{_≡_, refl, _∙_}
-use mathlib.Core.List.{_++_, append-nil}
-use Prim.Native.Nat.{_+_, _-_, _<_, _≤_}
-use native.Mathlib.Nat.{add-zero}
-use native.Mathlib.Numerals.{add-one}
+-- The bytes from the place on are added to the piece in the output, and the plaintext to those bytes.
+use mathlib.Core.Path.{_≡_, refl, sym, ap, _∙_}
+use mathlib.Core.List.{List, _++_, append-nil}
+use Prim.Native.Nat.{ℕ, _+_, _-_, _≤_}
 use native.Mathlib.Omega.{arith}
 use denote.Ref.{now}
-use lib.ListN.{length, take, drop, length-set, drop-of-length-le}
-use lib.Seq.{take-all}
-use Rattle.laws.specs.Words.{_⊕_}
-use Rattle.xoodyak.specs.Feed.{runEnd, runOut, put}
-use Rattle.xoodyak.proofs.Feeding.{run-turn-end, run-turn-out}
+use lib.ListN.{length, take, drop, drop-of-length-le}
+use Rattle.laws.specs.Lists.{addFront}
+use Rattle.xoodyak.specs.declared.cyclist.Duplex.{Duplex}
+use Rattle.xoodyak.specs.declared.feed.Kind.{Kind}
+use Rattle.xoodyak.specs.declared.feed.Kind.the-variants.{Seal, Open}
+use Rattle.xoodyak.proofs.Runs.{text, part-out, part-end}
 use borrow.Author.Needs.{needs}
 use Rattle.xoodyak.proofs.cyclist.Duplex.run.Statement.{statement}
 use Rattle.xoodyak.proofs.cyclist.Duplex.run.Tie as tie
 
-abbrev Inv-loop : tie.InvT-loop
-Inv-loop kind place out₀ piece d₀ n i₀ out d i = (i ≤ length piece) × (length out ≡ length out₀) × (runEnd kind (place + i) d (drop i piece) ≡ runEnd kind place d₀ piece) × (take i out ++ runOut kind (place + i) d (drop i piece) ≡ runOut kind place d₀ piece)
+part-xor-into-end : tie.Need-part-xor-into-end
+part-xor-into-end c = let l : length (c .before .before .before .before .before .before .before .before .before .args .self .st) ≡ 48 = search needs in omega (arith, c .before .before .before .before .before .before .before .before .before .pre .1)
 
-abbrev μ-loop : tie.MeasureT-loop
-μ-loop kind place out₀ piece d₀ n i₀ out d i = length piece - i
+part-st-end : tie.Need-part-st-end
+part-st-end c = let l : length (c .before .before .before .before .before .before .before .before .before .before .before .before .before .before .before .args .self .st) ≡ 48 = search needs in omega (arith, c .before .before .before .before .before .before .before .before .before .before .before .before .before .before .before .pre .1)
 
-loop-holds : tie.Need-loop-holds Inv-loop μ-loop
-loop-holds c = (omega arith, refl, rw add-zero, rw add-zero)
+part-st-end-2 : tie.Need-part-st-end-2
+part-st-end-2 c = let l : length (c .before .before .before .before .before .before .before .before .before .before .before .before .before .before .before .args .self .st) ≡ 48 = search needs in omega (arith, c .before .before .before .before .before .before .before .before .before .before .before .before .before .before .before .pre .1)
 
-add-j : tie.Need-add-j Inv-loop μ-loop
-add-j c = omega arith
+-- the duplex, the place and the piece at entry
+abbrev D : tie.After-xor-into → Duplex
+D c = c .before .before .before .before .before .before .before .before .before .before .before .args .self
 
-shared-slice-read-b : tie.Need-shared-slice-read-b Inv-loop μ-loop
-shared-slice-read-b c = omega arith
+abbrev P : tie.After-xor-into → ℕ
+P c = c .before .before .before .before .before .before .before .before .before .before .before .args .place
 
-element-copy-out-answer : tie.Need-element-copy-out-answer Inv-loop μ-loop
-element-copy-out-answer c = omega arith
+abbrev X : tie.After-xor-into → List ℕ
+X c = now (c .before .before .before .before .before .before .before .before .before .before .before .args .piece)
 
-slice-write-out : tie.Need-slice-write-out Inv-loop μ-loop
-slice-write-out c = omega arith
+inside : (c : tie.After-xor-into) → P c + length (X c) ≤ length (D c .st)
+inside c = let l : length (D c .st) ≡ 48 = search needs in omega (arith, c .before .before .before .before .before .before .before .before .before .before .before .pre .1)
 
-plain-requires : tie.Need-plain-requires Inv-loop μ-loop
-plain-requires c κs = search needs
+-- the bytes from the place on
+abbrev R : tie.After-xor-into → List ℕ
+R c = take (P c + length (X c) - P c) (drop (P c) (D c .st))
 
-element-write-d : tie.Need-element-write-d Inv-loop μ-loop
-element-write-d c = omega arith
+-- the output is the piece before those bytes are added to it
+wrote : (c : tie.After-xor-into) → c .xor-into .last .0 ≡ addFront (X c) (R c)
+wrote c =
+    let o = now (c .before .before .before .before .before .before .before .before .before .before .before .args .out) in
+    let n : length o ≤ length (X c) = omega (arith, c .before .before .before .before .before .before .before .before .before .before .before .pre .0) in
+    let e : c .before .before .before .before .before .before .copy-into .last .0 ≡ X c = c .before .before .before .before .before .before .copy-into .ensures ∙ ap (λ (y : List ℕ). X c ++ y) (drop-of-length-le o n) ∙ append-nil (X c) in
+    c .xor-into .ensures ∙ ap (λ (y : List ℕ). addFront y (R c)) e
 
-add-i : tie.Need-add-i Inv-loop μ-loop
-add-i c = omega arith
+-- what is added to them, once the kind is known
+told : (c : tie.After-xor-into) (k kind : Kind) (y : List ℕ) → kind ≡ k → y ≡ text k (X c) (R c) → y ≡ text kind (X c) (R c)
+told c k kind y e h = h ∙ ap (λ (j : Kind). text j (X c) (R c)) (sym e)
 
-loop-less : tie.Need-loop-less Inv-loop μ-loop
-loop-less c = omega arith
+returns : tie.Need-returns
+returns c = let w = c .before .before .before .before .before .before .before in
+    let v = told w Seal _ (X w) (c .before .before .before .enum-told .given .1) refl in
+    (part-end _ (P w) _ (D w) (X w) refl (inside w) v (c .before .xor-into2 .ensures), part-out _ (P w) _ (D w) (X w) refl (inside w) (wrote w))
 
-loop-again : tie.Need-loop-again Inv-loop μ-loop
-unfolding put _⊕_
-loop-again c = let l = c .before .before .before .before in
-    let a = l .before .before .before .args in
-    let h : l .loop .i < length (now (a .piece)) = omega arith in
-    let g : l .loop .i < length (l .loop .out) = omega arith in (
-      omega arith,
-      simp length-set (omega arith),
-      rw (add-one, c .plain .ensures) (run-turn-end (a .kind) (a .place) (l .loop .i) (now (a .piece)) (l .loop .d) h ∙ l .loop .inv .2),
-      rw (add-one, c .plain .ensures) (run-turn-out (a .kind) (a .place) (l .loop .i) (now (a .piece)) (l .loop .d) h (l .loop .out) g ∙ l .loop .inv .3),
-    )
-
-same-length : tie.Need-same-length Inv-loop μ-loop
-same-length c = omega arith
-
-returns : tie.Need-returns Inv-loop μ-loop
-unfolding runEnd runOut
-returns c = let l = c .before in
-    let p = now (l .before .before .before .args .piece) in
-    let h : length p ≤ l .loop .i = omega arith in
-    let g : length (l .loop .out) ≤ l .loop .i = omega arith in
-    (rw (drop-of-length-le p h) at (l .loop .inv .2), rw (drop-of-length-le p h, append-nil, take-all) at (l .loop .inv .3))
+returns-2 : tie.Need-returns-2
+returns-2 c = let w = c .before .before .before .before .before .before .before .before in
+    let v = told w Open _ _ (c .before .before .before .before .enum-told2 .given .1) (wrote w) in
+    (part-end _ (P w) _ (D w) (X w) refl (inside w) v (c .before .xor-into3 .ensures), part-out _ (P w) _ (D w) (X w) refl (inside w) (wrote w))
 
 pub run-spec : {M : Type 1} → statement M
 run-spec =
     tie.close
-    (tie.spec
-    Inv-loop
-    μ-loop
-    loop-holds
-    add-j
-    shared-slice-read-b
-    element-copy-out-answer
-    slice-write-out
-    plain-requires
-    element-write-d
-    add-i
-    loop-less
-    loop-again
-    same-length
-    returns)
+    (tie.spec (λ c. search needs) (λ c κs. search needs) (λ c. search needs) (λ c. search needs) part-xor-into-end (λ c κs. search needs)
+    (λ c. search needs) (λ c. search needs) (λ c. search needs) part-st-end (λ c κs. search needs)
+    (λ c. search needs) (λ c. search needs) (λ c. search needs) part-st-end-2 (λ c κs. search needs)
+    (λ c. search needs) returns (λ c. search needs) returns-2)
