@@ -1,0 +1,21 @@
+-- The walks of functions that are lent a session, one for each shape.
+pub mod Parts
+pub mod OfAnswer
+pub mod OfFed
+pub mod OfFinished
+pub mod OfSealed
+pub mod In
+pub mod InNumber
+pub mod Out
+pub mod KeyCall
+pub mod Alone
+pub mod OutIn
+pub mod OutFlagInSealed
+pub mod OutFlagIn
+pub mod OutSealed
+pub mod OutTagFlagIn
+pub mod OutTag
+pub mod WithKind
+pub mod Fed
+pub mod AloneFinished
+pub mod TagFinished
