@@ -2,3 +2,4 @@
 pub mod Walk
 pub mod Portions
 pub mod Steps
+pub mod States

@@ -5,7 +5,7 @@ use Prim.Native.Nat.{ℕ, zero, suc}
 use lib.ListN.{getD}
 use Rattle.walkback.specs.declared.Before.{Before}
 use Rattle.walkback.specs.Walk.{Call, beforeOf}
-use Rattle.capi.specs.Capi.{modeOf, phaseOf, ruleOf, soundWith}
+use Rattle.capi.specs.Capi.{modeOf, phaseOf, ruleOf}
 
 -- what it answers and leaves in the caller's memory
 pub record Back : Type 0 where
@@ -24,7 +24,7 @@ abbrev pub answeredBack : Bool → List ℕ → List ℕ → ℕ → Before → 
 answeredBack true st head phase x = record { number = x .number; st = x .st; head = headBack (x .number) head phase }
 answeredBack false st head phase x = record { number = 40; st = st; head = head }
 
--- a step back over a call, with mode and rule from the head, and the number of the phase before the call
-unfoldable pub exportedBack : List ℕ → List ℕ → ℕ → Call → Back
-exportedBack st head phase call =
-    answeredBack (soundWith head phase) st head phase (beforeOf (ruleOf (getD head 2 0)) (modeOf (getD head 0 0)) (phaseOf phase) call st)
+-- a step back over a call, from soundness, with mode and rule from the head, and the number of the phase before the call
+unfoldable pub exportedBack : Bool → List ℕ → List ℕ → ℕ → Call → Back
+exportedBack ok st head phase call =
+    answeredBack ok st head phase (beforeOf (ruleOf (getD head 2 0)) (modeOf (getD head 0 0)) (phaseOf phase) call st)

@@ -29,9 +29,9 @@ abbrev pub ruleOf : ℕ → Rule
 ruleOf zero = Crate
 ruleOf (suc _) = Specification
 
-abbrev pub begunOf : ℕ → Bool
-begunOf zero = false
-begunOf (suc _) = true
+abbrev pub flagOf : ℕ → Bool
+flagOf zero = false
+flagOf (suc _) = true
 
 abbrev pub kindOf : ℕ → Kind
 kindOf zero = Seal
@@ -49,9 +49,9 @@ abbrev pub ruleNo : Rule → ℕ
 ruleNo Crate = 0
 ruleNo Specification = 1
 
-abbrev pub begunNo : Bool → ℕ
-begunNo true = 1
-begunNo false = 0
+abbrev pub flagNo : Bool → ℕ
+flagNo true = 1
+flagNo false = 0
 
 abbrev pub kindNo : Kind → ℕ
 kindNo Seal = 0
@@ -63,15 +63,19 @@ sound head =
     both (ltb (getD head 0 0) 2)
     (both (ltb (getD head 1 0) 2) (both (ltb (getD head 2 0) 2) (both (ltb (getD head 3 0) 2) (ltb (getD head 4 0) 2))))
 
--- and so is a number beside the head, of a kind or of a phase
+-- and so is a number beside the head: a kind, a phase, or the flag of an optional argument
 unfoldable pub soundWith : List ℕ → ℕ → Bool
 soundWith head n = both (sound head) (ltb n 2)
+
+-- and so are the flags of the three optional arguments of a key call, beside what else is sound
+unfoldable pub withFlags : Bool → ℕ → ℕ → ℕ → Bool
+withFlags ok a b c = both ok (both (ltb a 2) (both (ltb b 2) (ltb c 2)))
 
 abbrev pub sessionOf : List ℕ → List ℕ → Session
 sessionOf st head = record {
   duplex = record { st = st; mode = modeOf (getD head 0 0); phase = phaseOf (getD head 1 0) };
   rule = ruleOf (getD head 2 0);
-  message = record { begun = begunOf (getD head 3 0); kind = kindOf (getD head 4 0); place = getD head 5 0 };
+  message = record { begun = flagOf (getD head 3 0); kind = kindOf (getD head 4 0); place = getD head 5 0 };
 }
 
 abbrev pub headOf : Session → List ℕ
@@ -79,34 +83,13 @@ headOf s =
     modeNo (s .duplex .mode)
     ∷ phaseNo (s .duplex .phase)
     ∷ ruleNo (s .rule)
-    ∷ begunNo (s .message .begun)
+    ∷ flagNo (s .message .begun)
     ∷ kindNo (s .message .kind)
     ∷ s .message .place
     ∷ []
 
--- ---- what an exported call answers and leaves in the caller's memory
+-- ---- what an exported call answers and leaves in the caller's memory; the counts are bytes missing, bytes taken and permutations spent
 pub record Exported : Type 0 where
-  pub number : ℕ
-  pub st : List ℕ
-  pub head : List ℕ
-  pub bytes : List ℕ
-  pub tag : List ℕ
-
--- from soundness and the call's own outcome: 40, with nothing changed, where the head is not sound
-abbrev pub answered : Bool → List ℕ → List ℕ → List ℕ → List ℕ → Outcome → Exported
-answered true st head bytes tag x =
-    record { number = x .number; st = x .session .duplex .st; head = headOf (x .session); bytes = x .bytes; tag = x .tag }
-answered false st head bytes tag x = record { number = 40; st = st; head = head; bytes = bytes; tag = tag }
-
--- a call on the caller's session, with the lent buffer and the tag as they are at entry; empty where a call has none
-unfoldable pub exportedIf : Bool → List ℕ → List ℕ → List ℕ → List ℕ → (Session → Outcome) → Exported
-exportedIf ok st head bytes tag call = answered ok st head bytes tag (call (sessionOf st head))
-
-abbrev pub exported : List ℕ → List ℕ → List ℕ → List ℕ → (Session → Outcome) → Exported
-exported st head bytes tag call = exportedIf (sound head) st head bytes tag call
-
--- ---- the same of a message handed over bit by bit, with the counts: bytes missing, bytes taken, permutations spent
-pub record ExportedPortion : Type 0 where
   pub number : ℕ
   pub st : List ℕ
   pub head : List ℕ
@@ -114,11 +97,17 @@ pub record ExportedPortion : Type 0 where
   pub tag : List ℕ
   pub counts : List ℕ
 
-abbrev pub answeredPortion : Bool → List ℕ → List ℕ → List ℕ → List ℕ → List ℕ → Portion → ExportedPortion
-answeredPortion true st head bytes tag counts x =
+-- from soundness and the call's own outcome: 40, with nothing changed, where a number is not sound
+abbrev pub answered : Bool → List ℕ → List ℕ → List ℕ → List ℕ → List ℕ → Portion → Exported
+answered true st head bytes tag counts x =
     record { number = x .number; st = x .session .duplex .st; head = headOf (x .session); bytes = x .bytes; tag = x .tag; counts = x .missing ∷ x .taken ∷ x .spent ∷ [] }
-answeredPortion false st head bytes tag counts x =
-    record { number = 40; st = st; head = head; bytes = bytes; tag = tag; counts = counts }
+answered false st head bytes tag counts x = record { number = 40; st = st; head = head; bytes = bytes; tag = tag; counts = counts }
 
-unfoldable pub exportedPortion : Bool → List ℕ → List ℕ → List ℕ → List ℕ → List ℕ → (Session → Portion) → ExportedPortion
-exportedPortion ok st head bytes tag counts call = answeredPortion ok st head bytes tag counts (call (sessionOf st head))
+-- a call on the caller's session, with its memory as it is at entry: the lent buffer, the tag and the counts, empty where a call has none
+unfoldable pub exported : Bool → List ℕ → List ℕ → List ℕ → List ℕ → List ℕ → (Session → Portion) → Exported
+exported ok st head bytes tag counts call = answered ok st head bytes tag counts (call (sessionOf st head))
+
+-- a call that is no feed counts no bytes taken
+abbrev pub whole : Outcome → Portion
+whole x =
+    record { session = x .session; number = x .number; missing = x .missing; tag = x .tag; bytes = x .bytes; taken = 0; spent = x .spent }

@@ -1,9 +1,9 @@
-// Exported calls on a session that is the caller's: its 48 bytes, and a head of six numbers for mode, phase, rule and the
-// message that may be unfinished: whether it is begun, its kind and its place.
+// A session as the caller holds it, decoded and encoded: its 48 bytes, and a head of six numbers for mode, phase, rule and
+// the message that may be unfinished: whether it is begun, its kind and its place.
 ghost use mathlib.Core.Path.{_≡_};
-ghost use mathlib.Core.List.{[]};
-ghost use Rattle.xoodyak.specs.Calls.{absorbOf, squeezeOf, encryptInPlaceOf, decryptInPlaceOf, sealInPlaceDetachedOf, openInPlaceDetachedOf, sealDetachedOf, openDetachedOf};
-ghost use Rattle.capi.specs.Capi.{modeOf, phaseOf, ruleOf, begunOf, kindOf, modeNo, phaseNo, ruleNo, begunNo, kindNo, sound, soundWith, sessionOf, headOf, exported};
+ghost use mathlib.Core.List.{[], _∷_};
+ghost use Rattle.capi.specs.Capi.{modeOf, phaseOf, ruleOf, flagOf, kindOf, modeNo, phaseNo, ruleNo, flagNo, kindNo, sound, soundWith, withFlags, sessionOf, headOf};
+use xoodyak::Answer;
 use xoodyak::Rule;
 use xoodyak::Session;
 use xoodyak::cyclist::Duplex;
@@ -11,7 +11,6 @@ use xoodyak::cyclist::Mode;
 use xoodyak::cyclist::Phase;
 use xoodyak::feed::Kind;
 use xoodyak::feed::Message;
-use xoodyak::tag::Tag;
 
 pub(crate) fn mode_of(n: u8) -> Mode
     ensures { λ r. ⌜ r ≡ modeOf n ⌝ }
@@ -40,8 +39,8 @@ pub(crate) fn rule_of(n: u8) -> Rule
     }
 }
 
-fn begun_of(n: u8) -> bool
-    ensures { λ r. ⌜ r ≡ begunOf n ⌝ }
+pub(crate) fn flag_of(n: u8) -> bool
+    ensures { λ r. ⌜ r ≡ flagOf n ⌝ }
 {
     match n {
         0 => false,
@@ -85,10 +84,10 @@ fn rule_no(rule: Rule) -> u8
     }
 }
 
-fn begun_no(begun: bool) -> u8
-    ensures { λ r. ⌜ r ≡ begunNo begun ⌝ }
+fn flag_no(flag: bool) -> u8
+    ensures { λ r. ⌜ r ≡ flagNo flag ⌝ }
 {
-    if begun { 1 } else { 0 }
+    if flag { 1 } else { 0 }
 }
 
 fn kind_no(kind: Kind) -> u8
@@ -118,12 +117,28 @@ pub(crate) fn sound(head: [u8; 6]) -> bool
     head[4] < 2
 }
 
-// The same with a number beside the head, of a kind or of a phase.
+// The same with a number beside the head: a kind, a phase, or the flag of an optional argument.
 pub(crate) fn sound_with(head: [u8; 6], n: u8) -> bool
     ensures { λ r. ⌜ r ≡ soundWith head n ⌝ }
 {
     if sound(head) {
         return n < 2;
+    }
+    false
+}
+
+// The same of the three flags of a key call, beside what else is sound.
+pub(crate) fn with_flags(ok: bool, a: u8, b: u8, c: u8) -> bool
+    ensures { λ r. ⌜ r ≡ withFlags ok a b c ⌝ }
+{
+    if ok {
+        if 2 <= a {
+            return false;
+        }
+        if 2 <= b {
+            return false;
+        }
+        return c < 2;
     }
     false
 }
@@ -134,7 +149,7 @@ pub(crate) fn session_of(st: [u8; 48], head: [u8; 6]) -> Session
     let mode = mode_of(head[0]);
     let phase = phase_of(head[1]);
     let rule = rule_of(head[2]);
-    let begun = begun_of(head[3]);
+    let begun = flag_of(head[3]);
     let kind = kind_of(head[4]);
     Session {
         duplex: Duplex {
@@ -163,222 +178,28 @@ pub(crate) fn head_of(s: Session) -> [u8; 6]
     let m = mode_no(mode);
     let p = phase_no(phase);
     let r = rule_no(rule);
-    let b = begun_no(message.begun);
+    let b = flag_no(message.begun);
     let k = kind_no(kind);
     [m, p, r, b, k, message.place]
 }
 
-#[no_mangle]
-pub extern "C" fn lafomeihu_absorb(st: &mut [u8; 48], head: &mut [u8; 6], bin: &[u8]) -> u8
-    ensures { λ r. ⌜ r ≡ exported (now (st .entry)) (now (head .entry)) [] [] (λ s. absorbOf s (now (bin .entry))) .number ⌝ }
-    ensures { λ _. ⌜ now (st .exit) ≡ exported (now (st .entry)) (now (head .entry)) [] [] (λ s. absorbOf s (now (bin .entry))) .st ⌝ }
-    ensures { λ _. ⌜ now (head .exit) ≡ exported (now (st .entry)) (now (head .entry)) [] [] (λ s. absorbOf s (now (bin .entry))) .head ⌝ }
+// Puts a session into the caller's memory.
+pub(crate) fn put(st: &mut [u8; 48], head: &mut [u8; 6], s: Session)
+    ensures { λ _. ⌜ (now (st .exit) ≡ s .duplex .st) × (now (head .exit) ≡ headOf s) ⌝ }
 {
-    let b = *st;
-    let h = *head;
-    if sound(h) {
-        let a = session_of(b, h).absorb(bin);
-        let s = a.session;
-        let d = s.duplex;
-        let after = d.st;
-        let g = head_of(s);
-        *st = after;
-        *head = g;
-        return a.number;
-    }
-    40
+    let d = s.duplex;
+    let after = d.st;
+    let g = head_of(s);
+    *st = after;
+    *head = g;
 }
 
-#[no_mangle]
-pub extern "C" fn lafomeihu_squeeze(st: &mut [u8; 48], head: &mut [u8; 6], out: &mut [u8]) -> u8
-    ensures { λ r. ⌜ r ≡ exported (now (st .entry)) (now (head .entry)) (now (out .entry)) [] (λ s. squeezeOf 0x40 s (now (out .entry))) .number ⌝ }
-    ensures { λ _. ⌜ now (st .exit) ≡ exported (now (st .entry)) (now (head .entry)) (now (out .entry)) [] (λ s. squeezeOf 0x40 s (now (out .entry))) .st ⌝ }
-    ensures { λ _. ⌜ now (head .exit) ≡ exported (now (st .entry)) (now (head .entry)) (now (out .entry)) [] (λ s. squeezeOf 0x40 s (now (out .entry))) .head ⌝ }
-    ensures { λ _. ⌜ now (out .exit) ≡ exported (now (st .entry)) (now (head .entry)) (now (out .entry)) [] (λ s. squeezeOf 0x40 s (now (out .entry))) .bytes ⌝ }
+// Puts an answer into the caller's memory; its number is left to answer.
+pub(crate) fn keep(st: &mut [u8; 48], head: &mut [u8; 6], counts: &mut [usize; 3], a: Answer) -> u8
+    ensures { λ r. ⌜ (r ≡ a .number) × ((now (st .exit) ≡ a .session .duplex .st) × ((now (head .exit) ≡ headOf (a .session)) × (now (counts .exit) ≡ a .missing ∷ 0 ∷ a .spent ∷ []))) ⌝ }
 {
-    let b = *st;
-    let h = *head;
-    if sound(h) {
-        let a = session_of(b, h).squeeze(out);
-        let s = a.session;
-        let d = s.duplex;
-        let after = d.st;
-        let g = head_of(s);
-        *st = after;
-        *head = g;
-        return a.number;
-    }
-    40
-}
-
-#[no_mangle]
-pub extern "C" fn lafomeihu_encrypt_in_place(
-    st: &mut [u8; 48],
-    head: &mut [u8; 6],
-    in_out: &mut [u8],
-) -> u8
-    ensures { λ r. ⌜ r ≡ exported (now (st .entry)) (now (head .entry)) (now («in_out» .entry)) [] (λ s. encryptInPlaceOf s (now («in_out» .entry))) .number ⌝ }
-    ensures { λ _. ⌜ now (st .exit) ≡ exported (now (st .entry)) (now (head .entry)) (now («in_out» .entry)) [] (λ s. encryptInPlaceOf s (now («in_out» .entry))) .st ⌝ }
-    ensures { λ _. ⌜ now (head .exit) ≡ exported (now (st .entry)) (now (head .entry)) (now («in_out» .entry)) [] (λ s. encryptInPlaceOf s (now («in_out» .entry))) .head ⌝ }
-    ensures { λ _. ⌜ now («in_out» .exit) ≡ exported (now (st .entry)) (now (head .entry)) (now («in_out» .entry)) [] (λ s. encryptInPlaceOf s (now («in_out» .entry))) .bytes ⌝ }
-{
-    let b = *st;
-    let h = *head;
-    if sound(h) {
-        let a = session_of(b, h).encrypt_in_place(in_out);
-        let s = a.session;
-        let d = s.duplex;
-        let after = d.st;
-        let g = head_of(s);
-        *st = after;
-        *head = g;
-        return a.number;
-    }
-    40
-}
-
-#[no_mangle]
-pub extern "C" fn lafomeihu_decrypt_in_place(
-    st: &mut [u8; 48],
-    head: &mut [u8; 6],
-    in_out: &mut [u8],
-) -> u8
-    ensures { λ r. ⌜ r ≡ exported (now (st .entry)) (now (head .entry)) (now («in_out» .entry)) [] (λ s. decryptInPlaceOf s (now («in_out» .entry))) .number ⌝ }
-    ensures { λ _. ⌜ now (st .exit) ≡ exported (now (st .entry)) (now (head .entry)) (now («in_out» .entry)) [] (λ s. decryptInPlaceOf s (now («in_out» .entry))) .st ⌝ }
-    ensures { λ _. ⌜ now (head .exit) ≡ exported (now (st .entry)) (now (head .entry)) (now («in_out» .entry)) [] (λ s. decryptInPlaceOf s (now («in_out» .entry))) .head ⌝ }
-    ensures { λ _. ⌜ now («in_out» .exit) ≡ exported (now (st .entry)) (now (head .entry)) (now («in_out» .entry)) [] (λ s. decryptInPlaceOf s (now («in_out» .entry))) .bytes ⌝ }
-{
-    let b = *st;
-    let h = *head;
-    if sound(h) {
-        let a = session_of(b, h).decrypt_in_place(in_out);
-        let s = a.session;
-        let d = s.duplex;
-        let after = d.st;
-        let g = head_of(s);
-        *st = after;
-        *head = g;
-        return a.number;
-    }
-    40
-}
-
-#[no_mangle]
-pub extern "C" fn lafomeihu_seal_in_place_detached(
-    st: &mut [u8; 48],
-    head: &mut [u8; 6],
-    in_out: &mut [u8],
-    tag: &mut [u8; 16],
-) -> u8
-    ensures { λ r. ⌜ r ≡ exported (now (st .entry)) (now (head .entry)) (now («in_out» .entry)) (now (tag .entry)) (λ s. sealInPlaceDetachedOf s (now («in_out» .entry))) .number ⌝ }
-    ensures { λ _. ⌜ now (st .exit) ≡ exported (now (st .entry)) (now (head .entry)) (now («in_out» .entry)) (now (tag .entry)) (λ s. sealInPlaceDetachedOf s (now («in_out» .entry))) .st ⌝ }
-    ensures { λ _. ⌜ now (head .exit) ≡ exported (now (st .entry)) (now (head .entry)) (now («in_out» .entry)) (now (tag .entry)) (λ s. sealInPlaceDetachedOf s (now («in_out» .entry))) .head ⌝ }
-    ensures { λ _. ⌜ now («in_out» .exit) ≡ exported (now (st .entry)) (now (head .entry)) (now («in_out» .entry)) (now (tag .entry)) (λ s. sealInPlaceDetachedOf s (now («in_out» .entry))) .bytes ⌝ }
-    ensures { λ _. ⌜ now (tag .exit) ≡ exported (now (st .entry)) (now (head .entry)) (now («in_out» .entry)) (now (tag .entry)) (λ s. sealInPlaceDetachedOf s (now («in_out» .entry))) .tag ⌝ }
-{
-    let b = *st;
-    let h = *head;
-    if sound(h) {
-        let a = session_of(b, h).aead_encrypt_in_place_detached(in_out);
-        let t = a.tag;
-        let got = t.bytes;
-        *tag = got;
-        let s = a.session;
-        let d = s.duplex;
-        let after = d.st;
-        let g = head_of(s);
-        *st = after;
-        *head = g;
-        return a.number;
-    }
-    40
-}
-
-#[no_mangle]
-pub extern "C" fn lafomeihu_open_in_place_detached(
-    st: &mut [u8; 48],
-    head: &mut [u8; 6],
-    in_out: &mut [u8],
-    tag: &[u8; 16],
-) -> u8
-    ensures { λ r. ⌜ r ≡ exported (now (st .entry)) (now (head .entry)) (now («in_out» .entry)) [] (λ s. openInPlaceDetachedOf s (now («in_out» .entry)) (record { bytes = now (tag .entry) })) .number ⌝ }
-    ensures { λ _. ⌜ now (st .exit) ≡ exported (now (st .entry)) (now (head .entry)) (now («in_out» .entry)) [] (λ s. openInPlaceDetachedOf s (now («in_out» .entry)) (record { bytes = now (tag .entry) })) .st ⌝ }
-    ensures { λ _. ⌜ now (head .exit) ≡ exported (now (st .entry)) (now (head .entry)) (now («in_out» .entry)) [] (λ s. openInPlaceDetachedOf s (now («in_out» .entry)) (record { bytes = now (tag .entry) })) .head ⌝ }
-    ensures { λ _. ⌜ now («in_out» .exit) ≡ exported (now (st .entry)) (now (head .entry)) (now («in_out» .entry)) [] (λ s. openInPlaceDetachedOf s (now («in_out» .entry)) (record { bytes = now (tag .entry) })) .bytes ⌝ }
-{
-    let b = *st;
-    let h = *head;
-    if sound(h) {
-        let received = Tag::from_bytes(*tag);
-        let a = session_of(b, h).aead_decrypt_in_place_detached(in_out, received);
-        let s = a.session;
-        let d = s.duplex;
-        let after = d.st;
-        let g = head_of(s);
-        *st = after;
-        *head = g;
-        return a.number;
-    }
-    40
-}
-
-#[no_mangle]
-pub extern "C" fn lafomeihu_seal_detached(
-    st: &mut [u8; 48],
-    head: &mut [u8; 6],
-    out: &mut [u8],
-    bin: &[u8],
-    tag: &mut [u8; 16],
-) -> u8
-    ensures { λ r. ⌜ r ≡ exported (now (st .entry)) (now (head .entry)) (now (out .entry)) (now (tag .entry)) (λ s. sealDetachedOf s (now (out .entry)) (now (bin .entry))) .number ⌝ }
-    ensures { λ _. ⌜ now (st .exit) ≡ exported (now (st .entry)) (now (head .entry)) (now (out .entry)) (now (tag .entry)) (λ s. sealDetachedOf s (now (out .entry)) (now (bin .entry))) .st ⌝ }
-    ensures { λ _. ⌜ now (head .exit) ≡ exported (now (st .entry)) (now (head .entry)) (now (out .entry)) (now (tag .entry)) (λ s. sealDetachedOf s (now (out .entry)) (now (bin .entry))) .head ⌝ }
-    ensures { λ _. ⌜ now (out .exit) ≡ exported (now (st .entry)) (now (head .entry)) (now (out .entry)) (now (tag .entry)) (λ s. sealDetachedOf s (now (out .entry)) (now (bin .entry))) .bytes ⌝ }
-    ensures { λ _. ⌜ now (tag .exit) ≡ exported (now (st .entry)) (now (head .entry)) (now (out .entry)) (now (tag .entry)) (λ s. sealDetachedOf s (now (out .entry)) (now (bin .entry))) .tag ⌝ }
-{
-    let b = *st;
-    let h = *head;
-    if sound(h) {
-        let a = session_of(b, h).aead_encrypt_detached(out, true, bin);
-        let t = a.tag;
-        let got = t.bytes;
-        *tag = got;
-        let s = a.session;
-        let d = s.duplex;
-        let after = d.st;
-        let g = head_of(s);
-        *st = after;
-        *head = g;
-        return a.number;
-    }
-    40
-}
-
-#[no_mangle]
-pub extern "C" fn lafomeihu_open_detached(
-    st: &mut [u8; 48],
-    head: &mut [u8; 6],
-    out: &mut [u8],
-    tag: &[u8; 16],
-    bin: &[u8],
-) -> u8
-    ensures { λ r. ⌜ r ≡ exported (now (st .entry)) (now (head .entry)) (now (out .entry)) [] (λ s. openDetachedOf s (now (out .entry)) (record { bytes = now (tag .entry) }) (now (bin .entry))) .number ⌝ }
-    ensures { λ _. ⌜ now (st .exit) ≡ exported (now (st .entry)) (now (head .entry)) (now (out .entry)) [] (λ s. openDetachedOf s (now (out .entry)) (record { bytes = now (tag .entry) }) (now (bin .entry))) .st ⌝ }
-    ensures { λ _. ⌜ now (head .exit) ≡ exported (now (st .entry)) (now (head .entry)) (now (out .entry)) [] (λ s. openDetachedOf s (now (out .entry)) (record { bytes = now (tag .entry) }) (now (bin .entry))) .head ⌝ }
-    ensures { λ _. ⌜ now (out .exit) ≡ exported (now (st .entry)) (now (head .entry)) (now (out .entry)) [] (λ s. openDetachedOf s (now (out .entry)) (record { bytes = now (tag .entry) }) (now (bin .entry))) .bytes ⌝ }
-{
-    let b = *st;
-    let h = *head;
-    if sound(h) {
-        let received = Tag::from_bytes(*tag);
-        let a = session_of(b, h).aead_decrypt_detached(out, received, true, bin);
-        let s = a.session;
-        let d = s.duplex;
-        let after = d.st;
-        let g = head_of(s);
-        *st = after;
-        *head = g;
-        return a.number;
-    }
-    40
+    let s = a.session;
+    put(st, head, s);
+    *counts = [a.missing, 0, a.spent];
+    a.number
 }

@@ -12,7 +12,7 @@ use denote.Triple.Entry.{Args, Res}
 use denote.Triple.Clauses.{Ended, AtExit, Clauses}
 use Rattle.xoodoo.specs.Xoodoo.{planeBytes, toBytes}
 use Rattle.xoodoo.specs.Words.{sixBytes}
-use Rattle.theorems.proofs.Decides.{Decides, once, twice, thrice, fourfold, fivefold}
+use Rattle.theorems.proofs.Decides.{Decides, once, twice, thrice, fourfold, fivefold, sixfold}
 use Rattle.xoodoo.proofs.Xoodoo.default.Reads as xoodoo-default
 use Rattle.xoodoo.proofs.Xoodoo.default.Kinds as xoodoo-default-k
 use Rattle.xoodoo.proofs.Xoodoo.from_bytes.Reads as xoodoo-from-bytes
@@ -162,6 +162,64 @@ use Rattle.walkback.proofs.seal.Reads as back-seal
 use Rattle.walkback.proofs.seal.Kinds as back-seal-k
 use Rattle.walkback.proofs.phase_after.Reads as back-phase-after
 use Rattle.walkback.proofs.phase_after.Kinds as back-phase-after-k
+use Rattle.capi.proofs.lafomeihu_xoodoo_permute.Reads as c-xoodoo-permute
+use Rattle.capi.proofs.lafomeihu_xoodoo_permute.Kinds as c-xoodoo-permute-k
+use Rattle.capi.proofs.lafomeihu_xoodoo_inverse.Reads as c-xoodoo-inverse
+use Rattle.capi.proofs.lafomeihu_xoodoo_inverse.Kinds as c-xoodoo-inverse-k
+use Rattle.capi.proofs.lafomeihu_xoodoo_rounds.Reads as c-xoodoo-rounds
+use Rattle.capi.proofs.lafomeihu_xoodoo_rounds.Kinds as c-xoodoo-rounds-k
+use Rattle.capi.proofs.lafomeihu_xoodoo_unrounds.Reads as c-xoodoo-unrounds
+use Rattle.capi.proofs.lafomeihu_xoodoo_unrounds.Kinds as c-xoodoo-unrounds-k
+use Rattle.capi.proofs.lafomeihu_xoodoo_add_byte.Reads as c-xoodoo-add-byte
+use Rattle.capi.proofs.lafomeihu_xoodoo_add_byte.Kinds as c-xoodoo-add-byte-k
+use Rattle.capi.proofs.lafomeihu_xoodoo_add_bytes.Reads as c-xoodoo-add-bytes
+use Rattle.capi.proofs.lafomeihu_xoodoo_add_bytes.Kinds as c-xoodoo-add-bytes-k
+use Rattle.capi.proofs.lafomeihu_xoodoo_extract_bytes.Reads as c-xoodoo-extract-bytes
+use Rattle.capi.proofs.lafomeihu_xoodoo_extract_bytes.Kinds as c-xoodoo-extract-bytes-k
+use Rattle.capi.proofs.hash.lafomeihu_hash.Reads as c-hash
+use Rattle.capi.proofs.hash.lafomeihu_hash.Kinds as c-hash-k
+use Rattle.capi.proofs.hash.lafomeihu_absorb.Reads as c-absorb
+use Rattle.capi.proofs.hash.lafomeihu_absorb.Kinds as c-absorb-k
+use Rattle.capi.proofs.hash.lafomeihu_absorb_more.Reads as c-absorb-more
+use Rattle.capi.proofs.hash.lafomeihu_absorb_more.Kinds as c-absorb-more-k
+use Rattle.capi.proofs.hash.lafomeihu_squeeze.Reads as c-squeeze
+use Rattle.capi.proofs.hash.lafomeihu_squeeze.Kinds as c-squeeze-k
+use Rattle.capi.proofs.hash.lafomeihu_squeeze_key.Reads as c-squeeze-key
+use Rattle.capi.proofs.hash.lafomeihu_squeeze_key.Kinds as c-squeeze-key-k
+use Rattle.capi.proofs.hash.lafomeihu_squeeze_more.Reads as c-squeeze-more
+use Rattle.capi.proofs.hash.lafomeihu_squeeze_more.Kinds as c-squeeze-more-k
+use Rattle.capi.proofs.keyed.lafomeihu_new.Reads as c-new
+use Rattle.capi.proofs.keyed.lafomeihu_new.Kinds as c-new-k
+use Rattle.capi.proofs.keyed.lafomeihu_absorb_key_and_nonce.Reads as c-absorb-key-and-nonce
+use Rattle.capi.proofs.keyed.lafomeihu_absorb_key_and_nonce.Kinds as c-absorb-key-and-nonce-k
+use Rattle.capi.proofs.keyed.lafomeihu_ratchet.Reads as c-ratchet
+use Rattle.capi.proofs.keyed.lafomeihu_ratchet.Kinds as c-ratchet-k
+use Rattle.capi.proofs.keyed.lafomeihu_encrypt.Reads as c-encrypt
+use Rattle.capi.proofs.keyed.lafomeihu_encrypt.Kinds as c-encrypt-k
+use Rattle.capi.proofs.keyed.lafomeihu_decrypt.Reads as c-decrypt
+use Rattle.capi.proofs.keyed.lafomeihu_decrypt.Kinds as c-decrypt-k
+use Rattle.capi.proofs.keyed.lafomeihu_encrypt_in_place.Reads as c-encrypt-in-place
+use Rattle.capi.proofs.keyed.lafomeihu_encrypt_in_place.Kinds as c-encrypt-in-place-k
+use Rattle.capi.proofs.keyed.lafomeihu_decrypt_in_place.Reads as c-decrypt-in-place
+use Rattle.capi.proofs.keyed.lafomeihu_decrypt_in_place.Kinds as c-decrypt-in-place-k
+use Rattle.capi.proofs.aead.lafomeihu_aead_encrypt_detached.Reads as c-aead-encrypt-detached
+use Rattle.capi.proofs.aead.lafomeihu_aead_encrypt_detached.Kinds as c-aead-encrypt-detached-k
+use Rattle.capi.proofs.aead.lafomeihu_aead_encrypt.Reads as c-aead-encrypt
+use Rattle.capi.proofs.aead.lafomeihu_aead_encrypt.Kinds as c-aead-encrypt-k
+use Rattle.capi.proofs.aead.lafomeihu_aead_decrypt_detached.Reads as c-aead-decrypt-detached
+use Rattle.capi.proofs.aead.lafomeihu_aead_decrypt_detached.Kinds as c-aead-decrypt-detached-k
+use Rattle.capi.proofs.aead.lafomeihu_aead_decrypt.Reads as c-aead-decrypt
+use Rattle.capi.proofs.aead.lafomeihu_aead_decrypt.Kinds as c-aead-decrypt-k
+use Rattle.capi.proofs.aead.lafomeihu_aead_encrypt_in_place_detached.Reads as c-aead-encrypt-in-place-detached
+use Rattle.capi.proofs.aead.lafomeihu_aead_encrypt_in_place_detached.Kinds as c-aead-encrypt-in-place-detached-k
+use Rattle.capi.proofs.aead.lafomeihu_aead_encrypt_in_place.Reads as c-aead-encrypt-in-place
+use Rattle.capi.proofs.aead.lafomeihu_aead_encrypt_in_place.Kinds as c-aead-encrypt-in-place-k
+use Rattle.capi.proofs.aead.lafomeihu_aead_decrypt_in_place_detached.Reads as c-aead-decrypt-in-place-detached
+use Rattle.capi.proofs.aead.lafomeihu_aead_decrypt_in_place_detached.Kinds as c-aead-decrypt-in-place-detached-k
+use Rattle.capi.proofs.aead.lafomeihu_aead_decrypt_in_place.Reads as c-aead-decrypt-in-place
+use Rattle.capi.proofs.aead.lafomeihu_aead_decrypt_in_place.Kinds as c-aead-decrypt-in-place-k
+use Rattle.capi.proofs.aead.lafomeihu_verify.Reads as c-verify
+use Rattle.capi.proofs.aead.lafomeihu_verify.Kinds as c-verify-k
 use Rattle.capi.proofs.feed.lafomeihu_begin.Reads as c-begin
 use Rattle.capi.proofs.feed.lafomeihu_begin.Kinds as c-begin-k
 use Rattle.capi.proofs.feed.lafomeihu_feed.Reads as c-feed
@@ -172,30 +230,20 @@ use Rattle.capi.proofs.feed.lafomeihu_finish_open.Reads as c-finish-open
 use Rattle.capi.proofs.feed.lafomeihu_finish_open.Kinds as c-finish-open-k
 use Rattle.capi.proofs.back.lafomeihu_back_absorb.Reads as c-back-absorb
 use Rattle.capi.proofs.back.lafomeihu_back_absorb.Kinds as c-back-absorb-k
+use Rattle.capi.proofs.back.lafomeihu_back_absorb_more.Reads as c-back-absorb-more
+use Rattle.capi.proofs.back.lafomeihu_back_absorb_more.Kinds as c-back-absorb-more-k
 use Rattle.capi.proofs.back.lafomeihu_back_squeeze.Reads as c-back-squeeze
 use Rattle.capi.proofs.back.lafomeihu_back_squeeze.Kinds as c-back-squeeze-k
+use Rattle.capi.proofs.back.lafomeihu_back_squeeze_key.Reads as c-back-squeeze-key
+use Rattle.capi.proofs.back.lafomeihu_back_squeeze_key.Kinds as c-back-squeeze-key-k
+use Rattle.capi.proofs.back.lafomeihu_back_squeeze_more.Reads as c-back-squeeze-more
+use Rattle.capi.proofs.back.lafomeihu_back_squeeze_more.Kinds as c-back-squeeze-more-k
+use Rattle.capi.proofs.back.lafomeihu_back_key.Reads as c-back-key
+use Rattle.capi.proofs.back.lafomeihu_back_key.Kinds as c-back-key-k
+use Rattle.capi.proofs.back.lafomeihu_back_encrypt.Reads as c-back-encrypt
+use Rattle.capi.proofs.back.lafomeihu_back_encrypt.Kinds as c-back-encrypt-k
 use Rattle.capi.proofs.back.lafomeihu_back_seal.Reads as c-back-seal
 use Rattle.capi.proofs.back.lafomeihu_back_seal.Kinds as c-back-seal-k
-use Rattle.capi.proofs.lafomeihu_xoodoo_permute.Reads as c-xoodoo-permute
-use Rattle.capi.proofs.lafomeihu_xoodoo_permute.Kinds as c-xoodoo-permute-k
-use Rattle.capi.proofs.lafomeihu_xoodoo_inverse.Reads as c-xoodoo-inverse
-use Rattle.capi.proofs.lafomeihu_xoodoo_inverse.Kinds as c-xoodoo-inverse-k
-use Rattle.capi.proofs.session.lafomeihu_absorb.Reads as c-absorb
-use Rattle.capi.proofs.session.lafomeihu_absorb.Kinds as c-absorb-k
-use Rattle.capi.proofs.session.lafomeihu_squeeze.Reads as c-squeeze
-use Rattle.capi.proofs.session.lafomeihu_squeeze.Kinds as c-squeeze-k
-use Rattle.capi.proofs.session.lafomeihu_encrypt_in_place.Reads as c-encrypt-in-place
-use Rattle.capi.proofs.session.lafomeihu_encrypt_in_place.Kinds as c-encrypt-in-place-k
-use Rattle.capi.proofs.session.lafomeihu_decrypt_in_place.Reads as c-decrypt-in-place
-use Rattle.capi.proofs.session.lafomeihu_decrypt_in_place.Kinds as c-decrypt-in-place-k
-use Rattle.capi.proofs.session.lafomeihu_open_in_place_detached.Reads as c-open-in-place-detached
-use Rattle.capi.proofs.session.lafomeihu_open_in_place_detached.Kinds as c-open-in-place-detached-k
-use Rattle.capi.proofs.session.lafomeihu_open_detached.Reads as c-open-detached
-use Rattle.capi.proofs.session.lafomeihu_open_detached.Kinds as c-open-detached-k
-use Rattle.capi.proofs.session.lafomeihu_seal_in_place_detached.Reads as c-seal-in-place-detached
-use Rattle.capi.proofs.session.lafomeihu_seal_in_place_detached.Kinds as c-seal-in-place-detached-k
-use Rattle.capi.proofs.session.lafomeihu_seal_detached.Reads as c-seal-detached
-use Rattle.capi.proofs.session.lafomeihu_seal_detached.Kinds as c-seal-detached-k
 
 -- ---- the permutation
 pub xoodoo-default-decided : Decides 0 xoodoo-default-k.ps xoodoo-default-k.r xoodoo-default.Post (λ κs x x′ e e′. x ≡ x′)
@@ -480,29 +528,86 @@ c-xoodoo-permute-decided κs a x x′ e e′ = once
 pub c-xoodoo-inverse-decided : Decides 1 c-xoodoo-inverse-k.ps c-xoodoo-inverse-k.r c-xoodoo-inverse.Post (λ κs x x′ e e′. e .0 .now ≡ e′ .0 .now)
 c-xoodoo-inverse-decided κs a x x′ e e′ = once
 
-pub c-absorb-decided : Decides 3 c-absorb-k.ps c-absorb-k.r c-absorb.Post (λ κs x x′ e e′. (x ≡ x′) × ((e .0 .now ≡ e′ .0 .now) × (e .1 .0 .now ≡ e′ .1 .0 .now)))
-c-absorb-decided κs a x x′ e e′ = thrice
+pub c-xoodoo-rounds-decided : Decides 1 c-xoodoo-rounds-k.ps c-xoodoo-rounds-k.r c-xoodoo-rounds.Post (λ κs x x′ e e′. (x ≡ x′) × (e .0 .now ≡ e′ .0 .now))
+c-xoodoo-rounds-decided κs a x x′ e e′ = twice
 
-pub c-squeeze-decided : Decides 3 c-squeeze-k.ps c-squeeze-k.r c-squeeze.Post (λ κs x x′ e e′. (x ≡ x′) × ((e .0 .now ≡ e′ .0 .now) × ((e .1 .0 .now ≡ e′ .1 .0 .now) × (e .1 .1 .0 .now ≡ e′ .1 .1 .0 .now))))
-c-squeeze-decided κs a x x′ e e′ = fourfold
+pub c-xoodoo-unrounds-decided : Decides 1 c-xoodoo-unrounds-k.ps c-xoodoo-unrounds-k.r c-xoodoo-unrounds.Post (λ κs x x′ e e′. (x ≡ x′) × (e .0 .now ≡ e′ .0 .now))
+c-xoodoo-unrounds-decided κs a x x′ e e′ = twice
 
-pub c-encrypt-in-place-decided : Decides 3 c-encrypt-in-place-k.ps c-encrypt-in-place-k.r c-encrypt-in-place.Post (λ κs x x′ e e′. (x ≡ x′) × ((e .0 .now ≡ e′ .0 .now) × ((e .1 .0 .now ≡ e′ .1 .0 .now) × (e .1 .1 .0 .now ≡ e′ .1 .1 .0 .now))))
-c-encrypt-in-place-decided κs a x x′ e e′ = fourfold
+pub c-xoodoo-add-byte-decided : Decides 1 c-xoodoo-add-byte-k.ps c-xoodoo-add-byte-k.r c-xoodoo-add-byte.Post (λ κs x x′ e e′. (x ≡ x′) × (e .0 .now ≡ e′ .0 .now))
+c-xoodoo-add-byte-decided κs a x x′ e e′ = twice
 
-pub c-decrypt-in-place-decided : Decides 3 c-decrypt-in-place-k.ps c-decrypt-in-place-k.r c-decrypt-in-place.Post (λ κs x x′ e e′. (x ≡ x′) × ((e .0 .now ≡ e′ .0 .now) × ((e .1 .0 .now ≡ e′ .1 .0 .now) × (e .1 .1 .0 .now ≡ e′ .1 .1 .0 .now))))
-c-decrypt-in-place-decided κs a x x′ e e′ = fourfold
+pub c-xoodoo-add-bytes-decided : Decides 2 c-xoodoo-add-bytes-k.ps c-xoodoo-add-bytes-k.r c-xoodoo-add-bytes.Post (λ κs x x′ e e′. (x ≡ x′) × (e .0 .now ≡ e′ .0 .now))
+c-xoodoo-add-bytes-decided κs a x x′ e e′ = twice
 
-pub c-open-in-place-detached-decided : Decides 4 c-open-in-place-detached-k.ps c-open-in-place-detached-k.r c-open-in-place-detached.Post (λ κs x x′ e e′. (x ≡ x′) × ((e .0 .now ≡ e′ .0 .now) × ((e .1 .0 .now ≡ e′ .1 .0 .now) × (e .1 .1 .0 .now ≡ e′ .1 .1 .0 .now))))
-c-open-in-place-detached-decided κs a x x′ e e′ = fourfold
+pub c-xoodoo-extract-bytes-decided : Decides 2 c-xoodoo-extract-bytes-k.ps c-xoodoo-extract-bytes-k.r c-xoodoo-extract-bytes.Post (λ κs x x′ e e′. (x ≡ x′) × (e .1 .0 .now ≡ e′ .1 .0 .now))
+c-xoodoo-extract-bytes-decided κs a x x′ e e′ = twice
 
-pub c-open-detached-decided : Decides 5 c-open-detached-k.ps c-open-detached-k.r c-open-detached.Post (λ κs x x′ e e′. (x ≡ x′) × ((e .0 .now ≡ e′ .0 .now) × ((e .1 .0 .now ≡ e′ .1 .0 .now) × (e .1 .1 .0 .now ≡ e′ .1 .1 .0 .now))))
-c-open-detached-decided κs a x x′ e e′ = fourfold
+pub c-hash-decided : Decides 2 c-hash-k.ps c-hash-k.r c-hash.Post (λ κs x x′ e e′. (x ≡ x′) × ((e .0 .now ≡ e′ .0 .now) × (e .1 .0 .now ≡ e′ .1 .0 .now)))
+c-hash-decided κs a x x′ e e′ = thrice
 
-pub c-seal-in-place-detached-decided : Decides 4 c-seal-in-place-detached-k.ps c-seal-in-place-detached-k.r c-seal-in-place-detached.Post (λ κs x x′ e e′. (x ≡ x′) × ((e .0 .now ≡ e′ .0 .now) × ((e .1 .0 .now ≡ e′ .1 .0 .now) × ((e .1 .1 .0 .now ≡ e′ .1 .1 .0 .now) × (e .1 .1 .1 .0 .now ≡ e′ .1 .1 .1 .0 .now)))))
-c-seal-in-place-detached-decided κs a x x′ e e′ = fivefold
+pub c-absorb-decided : Decides 4 c-absorb-k.ps c-absorb-k.r c-absorb.Post (λ κs x x′ e e′. (x ≡ x′) × ((e .0 .now ≡ e′ .0 .now) × ((e .1 .0 .now ≡ e′ .1 .0 .now) × (e .1 .1 .1 .0 .now ≡ e′ .1 .1 .1 .0 .now))))
+c-absorb-decided κs a x x′ e e′ = fourfold
 
-pub c-seal-detached-decided : Decides 5 c-seal-detached-k.ps c-seal-detached-k.r c-seal-detached.Post (λ κs x x′ e e′. (x ≡ x′) × ((e .0 .now ≡ e′ .0 .now) × ((e .1 .0 .now ≡ e′ .1 .0 .now) × ((e .1 .1 .0 .now ≡ e′ .1 .1 .0 .now) × (e .1 .1 .1 .1 .0 .now ≡ e′ .1 .1 .1 .1 .0 .now)))))
-c-seal-detached-decided κs a x x′ e e′ = fivefold
+pub c-absorb-more-decided : Decides 4 c-absorb-more-k.ps c-absorb-more-k.r c-absorb-more.Post (λ κs x x′ e e′. (x ≡ x′) × ((e .0 .now ≡ e′ .0 .now) × ((e .1 .0 .now ≡ e′ .1 .0 .now) × (e .1 .1 .1 .1 .0 .now ≡ e′ .1 .1 .1 .1 .0 .now))))
+c-absorb-more-decided κs a x x′ e e′ = fourfold
+
+pub c-squeeze-decided : Decides 4 c-squeeze-k.ps c-squeeze-k.r c-squeeze.Post (λ κs x x′ e e′. (x ≡ x′) × ((e .0 .now ≡ e′ .0 .now) × ((e .1 .0 .now ≡ e′ .1 .0 .now) × ((e .1 .1 .0 .now ≡ e′ .1 .1 .0 .now) × (e .1 .1 .1 .0 .now ≡ e′ .1 .1 .1 .0 .now)))))
+c-squeeze-decided κs a x x′ e e′ = fivefold
+
+pub c-squeeze-key-decided : Decides 4 c-squeeze-key-k.ps c-squeeze-key-k.r c-squeeze-key.Post (λ κs x x′ e e′. (x ≡ x′) × ((e .0 .now ≡ e′ .0 .now) × ((e .1 .0 .now ≡ e′ .1 .0 .now) × ((e .1 .1 .0 .now ≡ e′ .1 .1 .0 .now) × (e .1 .1 .1 .0 .now ≡ e′ .1 .1 .1 .0 .now)))))
+c-squeeze-key-decided κs a x x′ e e′ = fivefold
+
+pub c-squeeze-more-decided : Decides 4 c-squeeze-more-k.ps c-squeeze-more-k.r c-squeeze-more.Post (λ κs x x′ e e′. (x ≡ x′) × ((e .0 .now ≡ e′ .0 .now) × ((e .1 .0 .now ≡ e′ .1 .0 .now) × ((e .1 .1 .0 .now ≡ e′ .1 .1 .0 .now) × (e .1 .1 .1 .0 .now ≡ e′ .1 .1 .1 .0 .now)))))
+c-squeeze-more-decided κs a x x′ e e′ = fivefold
+
+pub c-new-decided : Decides 6 c-new-k.ps c-new-k.r c-new.Post (λ κs x x′ e e′. (x ≡ x′) × ((e .0 .now ≡ e′ .0 .now) × ((e .1 .0 .now ≡ e′ .1 .0 .now) × (e .1 .1 .1 .1 .1 .1 .1 .1 .1 .1 .0 .now ≡ e′ .1 .1 .1 .1 .1 .1 .1 .1 .1 .1 .0 .now))))
+c-new-decided κs a x x′ e e′ = fourfold
+
+pub c-absorb-key-and-nonce-decided : Decides 6 c-absorb-key-and-nonce-k.ps c-absorb-key-and-nonce-k.r c-absorb-key-and-nonce.Post (λ κs x x′ e e′. (x ≡ x′) × ((e .0 .now ≡ e′ .0 .now) × ((e .1 .0 .now ≡ e′ .1 .0 .now) × (e .1 .1 .1 .1 .1 .1 .1 .1 .1 .0 .now ≡ e′ .1 .1 .1 .1 .1 .1 .1 .1 .1 .0 .now))))
+c-absorb-key-and-nonce-decided κs a x x′ e e′ = fourfold
+
+pub c-ratchet-decided : Decides 3 c-ratchet-k.ps c-ratchet-k.r c-ratchet.Post (λ κs x x′ e e′. (x ≡ x′) × ((e .0 .now ≡ e′ .0 .now) × ((e .1 .0 .now ≡ e′ .1 .0 .now) × (e .1 .1 .0 .now ≡ e′ .1 .1 .0 .now))))
+c-ratchet-decided κs a x x′ e e′ = fourfold
+
+pub c-encrypt-decided : Decides 5 c-encrypt-k.ps c-encrypt-k.r c-encrypt.Post (λ κs x x′ e e′. (x ≡ x′) × ((e .0 .now ≡ e′ .0 .now) × ((e .1 .0 .now ≡ e′ .1 .0 .now) × ((e .1 .1 .0 .now ≡ e′ .1 .1 .0 .now) × (e .1 .1 .1 .1 .0 .now ≡ e′ .1 .1 .1 .1 .0 .now)))))
+c-encrypt-decided κs a x x′ e e′ = fivefold
+
+pub c-decrypt-decided : Decides 5 c-decrypt-k.ps c-decrypt-k.r c-decrypt.Post (λ κs x x′ e e′. (x ≡ x′) × ((e .0 .now ≡ e′ .0 .now) × ((e .1 .0 .now ≡ e′ .1 .0 .now) × ((e .1 .1 .0 .now ≡ e′ .1 .1 .0 .now) × (e .1 .1 .1 .1 .0 .now ≡ e′ .1 .1 .1 .1 .0 .now)))))
+c-decrypt-decided κs a x x′ e e′ = fivefold
+
+pub c-encrypt-in-place-decided : Decides 4 c-encrypt-in-place-k.ps c-encrypt-in-place-k.r c-encrypt-in-place.Post (λ κs x x′ e e′. (x ≡ x′) × ((e .0 .now ≡ e′ .0 .now) × ((e .1 .0 .now ≡ e′ .1 .0 .now) × ((e .1 .1 .0 .now ≡ e′ .1 .1 .0 .now) × (e .1 .1 .1 .0 .now ≡ e′ .1 .1 .1 .0 .now)))))
+c-encrypt-in-place-decided κs a x x′ e e′ = fivefold
+
+pub c-decrypt-in-place-decided : Decides 4 c-decrypt-in-place-k.ps c-decrypt-in-place-k.r c-decrypt-in-place.Post (λ κs x x′ e e′. (x ≡ x′) × ((e .0 .now ≡ e′ .0 .now) × ((e .1 .0 .now ≡ e′ .1 .0 .now) × ((e .1 .1 .0 .now ≡ e′ .1 .1 .0 .now) × (e .1 .1 .1 .0 .now ≡ e′ .1 .1 .1 .0 .now)))))
+c-decrypt-in-place-decided κs a x x′ e e′ = fivefold
+
+pub c-aead-encrypt-detached-decided : Decides 6 c-aead-encrypt-detached-k.ps c-aead-encrypt-detached-k.r c-aead-encrypt-detached.Post (λ κs x x′ e e′. (x ≡ x′) × ((e .0 .now ≡ e′ .0 .now) × ((e .1 .0 .now ≡ e′ .1 .0 .now) × ((e .1 .1 .0 .now ≡ e′ .1 .1 .0 .now) × ((e .1 .1 .1 .1 .1 .0 .now ≡ e′ .1 .1 .1 .1 .1 .0 .now) × (e .1 .1 .1 .1 .1 .1 .0 .now ≡ e′ .1 .1 .1 .1 .1 .1 .0 .now))))))
+c-aead-encrypt-detached-decided κs a x x′ e e′ = sixfold
+
+pub c-aead-encrypt-decided : Decides 5 c-aead-encrypt-k.ps c-aead-encrypt-k.r c-aead-encrypt.Post (λ κs x x′ e e′. (x ≡ x′) × ((e .0 .now ≡ e′ .0 .now) × ((e .1 .0 .now ≡ e′ .1 .0 .now) × ((e .1 .1 .0 .now ≡ e′ .1 .1 .0 .now) × (e .1 .1 .1 .1 .1 .0 .now ≡ e′ .1 .1 .1 .1 .1 .0 .now)))))
+c-aead-encrypt-decided κs a x x′ e e′ = fivefold
+
+pub c-aead-decrypt-detached-decided : Decides 6 c-aead-decrypt-detached-k.ps c-aead-decrypt-detached-k.r c-aead-decrypt-detached.Post (λ κs x x′ e e′. (x ≡ x′) × ((e .0 .now ≡ e′ .0 .now) × ((e .1 .0 .now ≡ e′ .1 .0 .now) × ((e .1 .1 .0 .now ≡ e′ .1 .1 .0 .now) × (e .1 .1 .1 .1 .1 .1 .0 .now ≡ e′ .1 .1 .1 .1 .1 .1 .0 .now)))))
+c-aead-decrypt-detached-decided κs a x x′ e e′ = fivefold
+
+pub c-aead-decrypt-decided : Decides 5 c-aead-decrypt-k.ps c-aead-decrypt-k.r c-aead-decrypt.Post (λ κs x x′ e e′. (x ≡ x′) × ((e .0 .now ≡ e′ .0 .now) × ((e .1 .0 .now ≡ e′ .1 .0 .now) × ((e .1 .1 .0 .now ≡ e′ .1 .1 .0 .now) × (e .1 .1 .1 .1 .0 .now ≡ e′ .1 .1 .1 .1 .0 .now)))))
+c-aead-decrypt-decided κs a x x′ e e′ = fivefold
+
+pub c-aead-encrypt-in-place-detached-decided : Decides 5 c-aead-encrypt-in-place-detached-k.ps c-aead-encrypt-in-place-detached-k.r c-aead-encrypt-in-place-detached.Post (λ κs x x′ e e′. (x ≡ x′) × ((e .0 .now ≡ e′ .0 .now) × ((e .1 .0 .now ≡ e′ .1 .0 .now) × ((e .1 .1 .0 .now ≡ e′ .1 .1 .0 .now) × ((e .1 .1 .1 .0 .now ≡ e′ .1 .1 .1 .0 .now) × (e .1 .1 .1 .1 .0 .now ≡ e′ .1 .1 .1 .1 .0 .now))))))
+c-aead-encrypt-in-place-detached-decided κs a x x′ e e′ = sixfold
+
+pub c-aead-encrypt-in-place-decided : Decides 4 c-aead-encrypt-in-place-k.ps c-aead-encrypt-in-place-k.r c-aead-encrypt-in-place.Post (λ κs x x′ e e′. (x ≡ x′) × ((e .0 .now ≡ e′ .0 .now) × ((e .1 .0 .now ≡ e′ .1 .0 .now) × ((e .1 .1 .0 .now ≡ e′ .1 .1 .0 .now) × (e .1 .1 .1 .0 .now ≡ e′ .1 .1 .1 .0 .now)))))
+c-aead-encrypt-in-place-decided κs a x x′ e e′ = fivefold
+
+pub c-aead-decrypt-in-place-detached-decided : Decides 5 c-aead-decrypt-in-place-detached-k.ps c-aead-decrypt-in-place-detached-k.r c-aead-decrypt-in-place-detached.Post (λ κs x x′ e e′. (x ≡ x′) × ((e .0 .now ≡ e′ .0 .now) × ((e .1 .0 .now ≡ e′ .1 .0 .now) × ((e .1 .1 .0 .now ≡ e′ .1 .1 .0 .now) × (e .1 .1 .1 .1 .0 .now ≡ e′ .1 .1 .1 .1 .0 .now)))))
+c-aead-decrypt-in-place-detached-decided κs a x x′ e e′ = fivefold
+
+pub c-aead-decrypt-in-place-decided : Decides 4 c-aead-decrypt-in-place-k.ps c-aead-decrypt-in-place-k.r c-aead-decrypt-in-place.Post (λ κs x x′ e e′. (x ≡ x′) × ((e .0 .now ≡ e′ .0 .now) × ((e .1 .0 .now ≡ e′ .1 .0 .now) × ((e .1 .1 .0 .now ≡ e′ .1 .1 .0 .now) × (e .1 .1 .1 .0 .now ≡ e′ .1 .1 .1 .0 .now)))))
+c-aead-decrypt-in-place-decided κs a x x′ e e′ = fivefold
+
+pub c-verify-decided : Decides 2 c-verify-k.ps c-verify-k.r c-verify.Post (λ κs x x′ e e′. x ≡ x′)
+c-verify-decided κs a x x′ e e′ = once
 
 pub c-begin-decided : Decides 2 c-begin-k.ps c-begin-k.r c-begin.Post (λ κs x x′ e e′. (x ≡ x′) × ((e .0 .now ≡ e′ .0 .now) × (e .1 .0 .now ≡ e′ .1 .0 .now)))
 c-begin-decided κs a x x′ e e′ = thrice
@@ -519,8 +624,23 @@ c-finish-open-decided κs a x x′ e e′ = fourfold
 pub c-back-absorb-decided : Decides 3 c-back-absorb-k.ps c-back-absorb-k.r c-back-absorb.Post (λ κs x x′ e e′. (x ≡ x′) × ((e .0 .now ≡ e′ .0 .now) × (e .1 .0 .now ≡ e′ .1 .0 .now)))
 c-back-absorb-decided κs a x x′ e e′ = thrice
 
+pub c-back-absorb-more-decided : Decides 3 c-back-absorb-more-k.ps c-back-absorb-more-k.r c-back-absorb-more.Post (λ κs x x′ e e′. (x ≡ x′) × ((e .0 .now ≡ e′ .0 .now) × (e .1 .0 .now ≡ e′ .1 .0 .now)))
+c-back-absorb-more-decided κs a x x′ e e′ = thrice
+
 pub c-back-squeeze-decided : Decides 2 c-back-squeeze-k.ps c-back-squeeze-k.r c-back-squeeze.Post (λ κs x x′ e e′. (x ≡ x′) × ((e .0 .now ≡ e′ .0 .now) × (e .1 .0 .now ≡ e′ .1 .0 .now)))
 c-back-squeeze-decided κs a x x′ e e′ = thrice
+
+pub c-back-squeeze-key-decided : Decides 2 c-back-squeeze-key-k.ps c-back-squeeze-key-k.r c-back-squeeze-key.Post (λ κs x x′ e e′. (x ≡ x′) × ((e .0 .now ≡ e′ .0 .now) × (e .1 .0 .now ≡ e′ .1 .0 .now)))
+c-back-squeeze-key-decided κs a x x′ e e′ = thrice
+
+pub c-back-squeeze-more-decided : Decides 2 c-back-squeeze-more-k.ps c-back-squeeze-more-k.r c-back-squeeze-more.Post (λ κs x x′ e e′. (x ≡ x′) × ((e .0 .now ≡ e′ .0 .now) × (e .1 .0 .now ≡ e′ .1 .0 .now)))
+c-back-squeeze-more-decided κs a x x′ e e′ = thrice
+
+pub c-back-key-decided : Decides 5 c-back-key-k.ps c-back-key-k.r c-back-key.Post (λ κs x x′ e e′. (x ≡ x′) × ((e .0 .now ≡ e′ .0 .now) × (e .1 .0 .now ≡ e′ .1 .0 .now)))
+c-back-key-decided κs a x x′ e e′ = thrice
+
+pub c-back-encrypt-decided : Decides 3 c-back-encrypt-k.ps c-back-encrypt-k.r c-back-encrypt.Post (λ κs x x′ e e′. (x ≡ x′) × ((e .0 .now ≡ e′ .0 .now) × (e .1 .0 .now ≡ e′ .1 .0 .now)))
+c-back-encrypt-decided κs a x x′ e e′ = thrice
 
 pub c-back-seal-decided : Decides 3 c-back-seal-k.ps c-back-seal-k.r c-back-seal.Post (λ κs x x′ e e′. (x ≡ x′) × ((e .0 .now ≡ e′ .0 .now) × (e .1 .0 .now ≡ e′ .1 .0 .now)))
 c-back-seal-decided κs a x x′ e e′ = thrice

@@ -38,3 +38,9 @@ pub fivefold : {A B C D E : Type 0} {x y z : A} {u v w : B} {a b c : C} {k l m :
     → (y ≡ z) × ((v ≡ w) × ((b ≡ c) × ((l ≡ m) × (g ≡ h))))
     → (x ≡ y) × ((u ≡ v) × ((a ≡ b) × ((k ≡ l) × (f ≡ g))))
 fivefold p q = (once (p .0) (q .0), fourfold (p .1) (q .1))
+
+pub sixfold : {A B C D E F : Type 0} {x y z : A} {u v w : B} {a b c : C} {k l m : D} {f g h : E} {r s t : F}
+    → (x ≡ z) × ((u ≡ w) × ((a ≡ c) × ((k ≡ m) × ((f ≡ h) × (r ≡ t)))))
+    → (y ≡ z) × ((v ≡ w) × ((b ≡ c) × ((l ≡ m) × ((g ≡ h) × (s ≡ t)))))
+    → (x ≡ y) × ((u ≡ v) × ((a ≡ b) × ((k ≡ l) × ((f ≡ g) × (r ≡ s)))))
+sixfold p q = (once (p .0) (q .0), fivefold (p .1) (q .1))

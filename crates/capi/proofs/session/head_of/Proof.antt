@@ -10,7 +10,7 @@ returns c =
     let m = c .before .before .before .before .mode-no .ensures in
     let p = c .before .before .before .phase-no .ensures in
     let r = c .before .before .rule-no .ensures in
-    let b = c .before .begun-no .ensures in
+    let b = c .before .flag-no .ensures in
     let k = c .kind-no .ensures in
     λ i. m i ∷ p i ∷ r i ∷ b i ∷ k i ∷ a .s .message .place ∷ []
 

@@ -10,7 +10,7 @@ returns c =
     let m = c .before .before .before .before .mode-of .ensures in
     let p = c .before .before .before .phase-of .ensures in
     let r = c .before .before .rule-of .ensures in
-    let b = c .before .begun-of .ensures in
+    let b = c .before .flag-of .ensures in
     let k = c .kind-of .ensures in
     λ i. record {
       duplex = record { st = a .st; mode = m i; phase = p i };
