@@ -8,9 +8,9 @@ help:
 	@echo 'make test    the gate: layout, promises, imports; then everything proved from nothing, every must-fail edit, every program'
 	@echo 'make oracle  compare the proved program with the original Rust crate on random transcripts (SEEDS, LINES)'
 	@echo 'make stored  make the stored transcript and its answers anew'
-	@echo 'make bench   time the library beside the original Rust crate, as a table'
+	@echo 'make bench   time the library, through the drop-in crate, beside the original Rust crate: tables, and docs/benchmarks.svg'
 	@echo 'make lib     the archive for C and Rust: target/staticlib/libcapi.a'
-	@echo 'make rust    nothing to do yet: the drop-in crate and the C test are not there'
+	@echo 'make rust    the drop-in crate beside the original (CALLS, SEEDS), its examples, and the C program under valgrind'
 
 demo:
 	@mkdir -p target
@@ -44,8 +44,8 @@ lib:
 
 bench: lib
 	rust/bench/build.sh
-	target/bench/bench
+	target/bench/bench --plot docs/benchmarks.svg
 	rust/bench/counts.sh
 
-rust:
-	@echo 'nothing to do yet: the drop-in crate and the C test are not there'
+rust: lib
+	rust/test.sh

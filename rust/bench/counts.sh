@@ -9,11 +9,11 @@ collected() {
     valgrind --tool=callgrind --callgrind-out-file=/dev/null "$bench" --times "$@" 2>&1 | sed -n 's/.*Collected : //p'
 }
 
-echo '| what | crate, SSE file | crate, portable file | port | port beside portable file |'
+echo '| what | crate, SSE file | crate, portable file | library | library beside portable file |'
 echo '|---|---|---|---|---|'
 for name in permutation inverse 'hash of 4080' 'hash squeeze 4080' 'absorb 4080' 'squeeze 4080' \
     'seal in place 16' 'open in place 16' 'seal in place 64' 'open in place 64' 'seal in place 4080' 'open in place 4080' \
-    'fed in pieces of 24, 4080' 'back over seal 4080'; do
+    'fed in pieces of 24, 4080' 'back over seal in place 4080'; do
     counts=()
     for form in sse portable port; do
         counts+=($((($(collected 11 "$form" "$name") - $(collected 1 "$form" "$name")) / 10)))

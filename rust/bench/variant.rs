@@ -1,8 +1,10 @@
-// What is measured of one build of the original crate: names, and functions that do a thing so many times.
+// What is measured of one build of a crate with the original's interface: names, and functions that do a thing so many times.
 use std::hint::black_box;
 use xoodyak::{Xoodoo, XoodyakCommon, XoodyakHash, XoodyakKeyed};
 
 pub type Thing = (String, Box<dyn FnMut(u64)>);
+
+const LENGTHS: [usize; 4] = [16, 64, 1024, 4080];
 
 fn thing(name: String, mut once: impl FnMut() + 'static) -> Thing {
     (name, Box::new(move |times| (0..times).for_each(|_| once())))
@@ -23,7 +25,7 @@ pub fn results() -> Vec<Vec<u8>> {
     session.squeeze(&mut digest);
     let mut all = vec![digest];
     let start = XoodyakKeyed::new(&[1; 16], Some(&[2; 16]), None, None).unwrap();
-    for length in [16, 64, 1024, 4080] {
+    for length in LENGTHS {
         let (mut encrypted, mut in_place, mut copied) = (vec![7; length], vec![7; length], vec![0; length]);
         start.clone().encrypt_in_place(&mut encrypted);
         let tag = start.clone().aead_encrypt_in_place_detached(&mut in_place);
@@ -42,13 +44,15 @@ pub fn things() -> Vec<Thing> {
     let mut xoodoo = Xoodoo::default();
     let mut all = vec![thing("permutation".into(), move || black_box(&mut xoodoo).permute())];
 
-    let (data, mut digest) = (vec![7; 4080], [0; 32]);
-    all.push(thing("hash of 4080".into(), move || {
-        let mut session = XoodyakHash::new();
-        session.absorb(black_box(&data));
-        session.squeeze(&mut digest);
-        black_box(&digest);
-    }));
+    for length in LENGTHS {
+        let (data, mut digest) = (vec![7; length], [0; 32]);
+        all.push(thing(format!("hash of {length}"), move || {
+            let mut session = XoodyakHash::new();
+            session.absorb(black_box(&data));
+            session.squeeze(&mut digest);
+            black_box(&digest);
+        }));
+    }
 
     let start = XoodyakKeyed::new(&[1; 16], Some(&[2; 16]), None, None).unwrap();
     for length in [64, 4080] {
@@ -58,7 +62,7 @@ pub fn things() -> Vec<Thing> {
         all.push(thing(format!("decrypt in place {length}"), move || session.decrypt_in_place(black_box(&mut data))));
     }
     // Sealing and opening start from a copy of one session; each opening is of a record that is good.
-    for length in [16, 64, 1024, 4080] {
+    for length in LENGTHS {
         let (from, message, mut out) = (start.clone(), vec![7; length], vec![0; length]);
         all.push(thing(format!("seal by copy {length}"), move || {
             black_box(from.clone().aead_encrypt_detached(black_box(&mut out), black_box(Some(&message))).unwrap());
@@ -80,17 +84,19 @@ pub fn things() -> Vec<Thing> {
             from.clone().aead_decrypt_in_place_detached(black_box(&mut buffer), &its_tag).unwrap();
         }));
     }
-    for name in ["absorb 4080", "squeeze 4080"] {
-        let (from, mut data) = (start.clone(), vec![7; 4080]);
-        all.push(thing(name.into(), move || {
+    // From a copy of one session.
+    let mut of_copy = |name: String, length: usize, once: fn(&mut XoodyakKeyed, &mut [u8])| {
+        let (from, mut data) = (start.clone(), vec![7; length]);
+        all.push(thing(name, move || {
             let mut session = from.clone();
-            match name {
-                "absorb 4080" => session.absorb(black_box(&data)),
-                _ => session.squeeze(black_box(&mut data)),
-            }
+            once(&mut session, black_box(&mut data));
             black_box(&session);
         }));
+    };
+    for length in LENGTHS {
+        of_copy(format!("absorb {length}"), length, |session, data| session.absorb(data));
     }
+    of_copy("squeeze 4080".into(), 4080, |session, data| session.squeeze(data));
     let mut data = vec![7; 4080];
     all.push(thing("hash squeeze 4080".into(), move || {
         let mut session = XoodyakHash::new();
