@@ -5,7 +5,7 @@ LINES ?= 70000
 
 help:
 	@echo 'make demo    prove what the demonstration needs, then seal, open and refuse a batch of readings'
-	@echo 'make test    the gate: layout, promises, imports; then everything proved from nothing, every must-fail edit, every program'
+	@echo 'make test    the gate: layout, promises, imports; then everything proved from nothing, every must-fail edit and slip, every program'
 	@echo 'make oracle  compare the proved program with the original Rust crate on random transcripts (SEEDS, LINES)'
 	@echo 'make stored  make the stored transcript and its answers anew'
 	@echo 'make bench   time the library, through the drop-in crate, beside the original Rust crate: tables, and docs/benchmarks.svg'
@@ -24,9 +24,11 @@ checks:
 	python3 tools/imports.py
 	python3 tools/seams.py
 
-# The last line is that of `rt ci`: tools/edits.sh prints only where an edit shows nothing.
+# The verdict is that of `rt ci`; tools/slips.py then tries the edits that need no check from nothing, and tools/edits.sh prints only
+# where an edit shows nothing.
 test: checks
 	rt ci
+	@python3 tools/slips.py
 	@tools/edits.sh --quiet
 
 oracle:
