@@ -33,8 +33,8 @@ def replacements(edit):
     return found
 
 
-def copy_tree(crate, place):
-    """The repository at `place`, with what is proved below the crate."""
+def copy_tree(place):
+    """The repository at `place`, with what is proved of it."""
     shutil.rmtree(place, ignore_errors=True)
     (place / "target").mkdir(parents=True)
     shutil.copy(ROOT / "crates.txt", place)
@@ -94,7 +94,7 @@ def try_edit(crate, edit, place, unedited):
 def try_crate(crate, edits):
     """How many edits passed and failed."""
     places = [WORK / f"{crate}{i}" for i in range(min(JOBS, len(edits)))]
-    copy_tree(crate, places[0])
+    copy_tree(places[0])
     began = time.time()
     if check(crate, places[0], WORK / "log" / f"{crate}.log") != 0:
         print(f"slips {crate}: the unedited crate is not proved: see target/slips/log/{crate}.log")

@@ -84,7 +84,7 @@ extern "C" {
     pub fn lafomeihu_xoodoo_unrounds(st: &mut St, n: usize) -> u8;
     pub fn lafomeihu_xoodoo_add_byte(st: &mut St, byte: u8, offset: usize) -> u8;
     pub fn lafomeihu_xoodoo_add_bytes(st: &mut St, bin: *const u8, n: usize) -> u8;
-    pub fn lafomeihu_xoodoo_extract_bytes(st: &mut St, out: *mut u8, room: usize) -> u8;
+    pub fn lafomeihu_xoodoo_extract_bytes(st: &St, out: *mut u8, room: usize) -> u8;
 
     pub fn lafomeihu_back_absorb(st: &mut St, head: &mut Head, phase: u8, bin: *const u8, n: usize) -> u8;
     pub fn lafomeihu_back_absorb_more(

@@ -70,7 +70,7 @@ impl Xoodoo {
 
     /// Number 6 where more than 48 bytes are wanted.
     pub fn try_extract_bytes(&mut self, out: &mut [u8]) -> Result<(), Refusal> {
-        result(unsafe { archive::lafomeihu_xoodoo_extract_bytes(&mut self.st, out.as_mut_ptr(), out.len()) })
+        result(unsafe { archive::lafomeihu_xoodoo_extract_bytes(&self.st, out.as_mut_ptr(), out.len()) })
     }
 
     /// Takes the twelve rounds back.
