@@ -33,6 +33,11 @@ module _ {m x s v u : List ℕ} (l : length m ≡ 24) (ex : x ≡ m) (ev : v ≡
   pub encrypted-out : {f y : List ℕ} → length v ≡ 48 → f ≡ take 24 u → y ≡ f → y ≡ addFront m s
   encrypted-out n ef ey = rw (ey, ef, eu, ex, ev, ← l) (take-addFront s m (rw (l, ← ev, n) (lit≤ tt)))
 
+-- a block m of k bytes met in words: v is s, the state after Up, u gains the block's words x, and f is the front of u
+module _ {m x s v u f : List ℕ} {k : ℕ} (l : length m ≡ k) (ex : x ≡ m) (ev : v ≡ s) (eu : u ≡ addFront v x) (n : length v ≡ 48) (h : k ≤ 48) (ef : f ≡ take k u) where
+  pub met-out : {y : List ℕ} → y ≡ f → y ≡ addFront m s
+  met-out ey = rw (ey, ef, eu, ex, ev, ← l) (take-addFront s m (rw (l, ← ev, n) h))
+
 -- a full block b, decrypted: f is the front of the state, and the words m are the plaintext
 module _ {b x s v f m : List ℕ} (l : length b ≡ 24) (ex : x ≡ b) (ev : v ≡ s) (ef : f ≡ take 24 v) (em : m ≡ addFront x f) where
   pub decrypted-out : {y : List ℕ} → y ≡ m → y ≡ addFront b s

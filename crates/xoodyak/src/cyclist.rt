@@ -3,6 +3,7 @@ ghost use mathlib.Core.Path.{_≡_};
 ghost use Prim.Native.Nat.{_≤_, _<_};
 ghost use lib.ListN.{length};
 ghost use Rattle.xoodoo.specs.Xoodoo.{toBytes};
+ghost use Rattle.xoodyak.specs.declared.cyclist.Phase.the-variants.{Up};
 ghost use Rattle.xoodyak.specs.Cyclist.{fresh, absorbRate, squeezeRate, upColour, up, down, ready, absorb, absorbMore, squeezeEnd, squeezeOut, squeezeMoreEnd, squeezeMoreOut};
 use crate::bytes::least;
 use crate::words::absorb_block;
@@ -12,7 +13,7 @@ use crate::words::write_front;
 use xoodoo::round::State;
 use xoodoo::words::colour;
 use xoodoo::words::from_words;
-use xoodoo::words::permute_words;
+use xoodoo::words::permute_bytes;
 use xoodoo::words::to_words;
 
 pub enum Mode {
@@ -75,11 +76,31 @@ impl Duplex {
         }
     }
 
+    // Where the bytes lie, for those who go on in bytes.
     pub(crate) fn up(self, cu: u8) -> Duplex
         ensures { λ r. ⌜ r ≡ up self cu ⌝ }
     {
+        let mut st = self.st;
         let mode = self.mode;
-        let st = from_words(permute_words(self.coloured(cu)));
+        match mode {
+            Mode::Hash => {}
+            Mode::Keyed => {
+                st[47] = st[47] ^ cu;
+            }
+        }
+        permute_bytes(&mut st);
+        Duplex {
+            st: st,
+            mode: mode,
+            phase: Phase::Up,
+        }
+    }
+
+    // The duplex after an Up that left these words.
+    pub(crate) fn after_up(v: State, mode: Mode) -> Duplex
+        ensures { λ r. ⌜ r ≡ record { st = toBytes v; mode = mode; phase = Up } ⌝ }
+    {
+        let st = from_words(v);
         Duplex {
             st: st,
             mode: mode,

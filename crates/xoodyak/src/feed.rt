@@ -6,7 +6,6 @@ ghost use Prim.Native.Nat.{_+_, _<_, _≤_};
 ghost use lib.Dec.{leb, ltb};
 ghost use lib.ListN.{length, drop};
 ghost use Rattle.xoodoo.specs.Xoodoo.{toBytes, xoodoo};
-ghost use Rattle.xoodyak.specs.declared.cyclist.Phase.the-variants.{Up};
 ghost use Rattle.xoodyak.specs.Cyclist.{squeezeOut};
 ghost use Rattle.xoodyak.specs.Calls.{answerOf, idle, both};
 ghost use Rattle.xoodyak.specs.Feed.{isOpen, upsBefore, placeIn, blockFor, closeBlock, openBlock, runEnd, runOut, feed, endBlock, endUps, ended, pastTag, finishUps, fedOf, finishedOf, beginOf, feedOf, finishSealOf, finishOpenOf};
@@ -24,11 +23,13 @@ use crate::numbers::first;
 use crate::numbers::missing;
 use crate::numbers::room_number;
 use crate::tag::Tag;
-use crate::words::open_whole;
-use crate::words::seal_whole;
+use crate::words::get24;
+use crate::words::put24;
 use xoodoo::round::State;
-use xoodoo::words::from_words;
+use xoodoo::words::add6;
+use xoodoo::words::front6;
 use xoodoo::words::pad24;
+use xoodoo::words::permute_words;
 use xoodoo::words::to_words;
 
 // What a message is handed over for.
@@ -167,12 +168,6 @@ impl Duplex {
         }
     }
 
-    fn block_for(self, fits: bool, place: usize) -> Duplex
-        ensures { λ r. ⌜ r ≡ blockFor fits place self ⌝ }
-    {
-        if fits { self } else { self.open_block(place) }
-    }
-
     // The words that the Up before a block permutes, where no block is open.
     fn before_block(self, place: usize) -> State
         requires { ⌜ isOpen place ≡ false ⌝ }
@@ -185,18 +180,6 @@ impl Duplex {
         pad24(to_words(&st))
     }
 
-    // The duplex after an Up that left these words.
-    fn after_up(v: State, mode: Mode) -> Duplex
-        ensures { λ r. ⌜ r ≡ record { st = toBytes v; mode = mode; phase = Up } ⌝ }
-    {
-        let st = from_words(v);
-        Duplex {
-            st: st,
-            mode: mode,
-            phase: Phase::Up,
-        }
-    }
-
     // A whole block, in words from its Up on.
     fn whole_block(self, kind: Kind, place: usize, out: &mut [u8], piece: &[u8]) -> Duplex
         requires { ⌜ (length (now out) ≡ 24) × (length (now piece) ≡ 24) × (isOpen place ≡ false) ⌝ }
@@ -204,10 +187,14 @@ impl Duplex {
         ensures { λ _. ⌜ now (out .exit) ≡ runOut kind 0 (openBlock place self) (now (piece .entry)) ⌝ }
     {
         let mode = self.mode;
-        let w = self.before_block(place);
+        let v = permute_words(self.before_block(place));
+        let x = get24(piece);
+        let u = add6(v, x);
+        let y = front6(u);
+        put24(out, y);
         match kind {
-            Kind::Seal => Duplex::after_up(seal_whole(w, out, piece), mode),
-            Kind::Open => Duplex::after_up(open_whole(w, out, piece), mode),
+            Kind::Seal => Duplex::after_up(u, mode),
+            Kind::Open => Duplex::after_up(add6(v, y), mode),
         }
     }
 
@@ -221,8 +208,10 @@ impl Duplex {
         if n == 24 {
             return self.whole_block(kind, place, out, piece);
         }
-        let q = place_in(fits, place);
-        self.block_for(fits, place).run(kind, q, out, piece)
+        if fits {
+            return self.run(kind, place, out, piece);
+        }
+        self.open_block(place).run(kind, 0, out, piece)
     }
 
     // Run by run, each inside one block, while the allowance has the Up that the next byte needs.

@@ -52,7 +52,7 @@ fn get16(b: &[u8], at: usize) -> Plane
     }
 }
 
-fn get24(b: &[u8]) -> Six
+pub(crate) fn get24(b: &[u8]) -> Six
     requires { ⌜ length (now b) ≡ 24 ⌝ }
     ensures { λ r. ⌜ sixBytes r ≡ now (b .entry) ⌝ }
 {
@@ -99,7 +99,7 @@ fn put16(b: &mut [u8], p: Plane)
     put4(b, 12, p.x3);
 }
 
-fn put24(b: &mut [u8], s: Six)
+pub(crate) fn put24(b: &mut [u8], s: Six)
     requires { ⌜ length (now b) ≡ 24 ⌝ }
     ensures { λ _. ⌜ now (b .exit) ≡ sixBytes s ⌝ }
 {
@@ -212,28 +212,4 @@ pub(crate) fn decrypt_block(w: State, buf: &mut [u8]) -> State
     let stream = from_words(v);
     xor_into(buf, &stream[..n]);
     down_words(v, buf)
-}
-
-// One block of 24 bytes, encrypted from one slice into another: Up with 00, and the block added, without its 01.
-pub(crate) fn seal_whole(w: State, out: &mut [u8], piece: &[u8]) -> State
-    requires { ⌜ (length (now out) ≡ 24) × (length (now piece) ≡ 24) ⌝ }
-    ensures { λ r. ⌜ toBytes r ≡ addFront (xoodoo (toBytes w)) (now (piece .entry)) ⌝ }
-    ensures { λ _. ⌜ now (out .exit) ≡ addFront (now (piece .entry)) (xoodoo (toBytes w)) ⌝ }
-{
-    let u = add6(permute_words(w), get24(piece));
-    put24(out, front6(u));
-    u
-}
-
-// The same, decrypted: what is added is what the block becomes.
-pub(crate) fn open_whole(w: State, out: &mut [u8], piece: &[u8]) -> State
-    requires { ⌜ (length (now out) ≡ 24) × (length (now piece) ≡ 24) ⌝ }
-    ensures { λ r. ⌜ toBytes r ≡ addFront (xoodoo (toBytes w)) (addFront (now (piece .entry)) (xoodoo (toBytes w))) ⌝ }
-    ensures { λ _. ⌜ now (out .exit) ≡ addFront (now (piece .entry)) (xoodoo (toBytes w)) ⌝ }
-{
-    let v = permute_words(w);
-    let x = get24(piece);
-    let m = xor6(x, front6(v));
-    put24(out, m);
-    add6(v, m)
 }
