@@ -45,8 +45,6 @@ use Rattle.xoodoo.proofs.words.front4.Reads as front4
 use Rattle.xoodoo.proofs.words.front4.Kinds as front4-k
 use Rattle.xoodoo.proofs.words.front6.Reads as front6
 use Rattle.xoodoo.proofs.words.front6.Kinds as front6-k
-use Rattle.xoodoo.proofs.words.xor6.Reads as xor6
-use Rattle.xoodoo.proofs.words.xor6.Kinds as xor6-k
 use Rattle.xoodoo.proofs.words.add4.Reads as add4
 use Rattle.xoodoo.proofs.words.add4.Kinds as add4-k
 use Rattle.xoodoo.proofs.words.add6.Reads as add6
@@ -295,9 +293,6 @@ front4-decided κs a x x′ e e′ = once
 
 pub front6-decided : Decides 0 front6-k.ps front6-k.r front6.Post (λ κs x x′ e e′. sixBytes x ≡ sixBytes x′)
 front6-decided κs a x x′ e e′ = once
-
-pub xor6-decided : Decides 0 xor6-k.ps xor6-k.r xor6.Post (λ κs x x′ e e′. sixBytes x ≡ sixBytes x′)
-xor6-decided κs a x x′ e e′ = once
 
 pub add4-decided : Decides 0 add4-k.ps add4-k.r add4.Post (λ κs x x′ e e′. toBytes x ≡ toBytes x′)
 add4-decided κs a x x′ e e′ = once

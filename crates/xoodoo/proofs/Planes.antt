@@ -136,13 +136,6 @@ rotls-words k l h = record { w0 = rotl-lt k l (h .w0); w1 = rotl-lt k l (h .w1);
 pub rotls-back : (j k : ℕ) {p : Plane} → k + j ≡ 32 → Words p → each (rotl j) (each (rotl k) p) ≡ p
 rotls-back j k e h = plane≡ (rotl-back j k _ e (h .w0)) (rotl-back j k _ e (h .w1)) (rotl-back j k _ e (h .w2)) (rotl-back j k _ e (h .w3))
 
--- a plane beside itself rotated by k, and then both rotated by j
-pub rotls-apart : (j k : ℕ) {p : Plane} → k + j ≤ 32 → Words p → each (rotl j) (p ⊞ each (rotl k) p) ≡ each (rotl j) p ⊞ each (rotl (k + j)) p
-rotls-apart j k {p} l h =
-    let lj : j ≤ 32 = omega arith in
-    let lk : k ≤ 32 = omega arith in
-    rw (rotls-is k lk h, rotls-is j lj (⊞-words h (rots-words k h)), rotls-is j lj h, rotls-is (k + j) l h, rots-⊞, rots-rots)
-
 -- ---- the rotations by i and by j added, m columns up
 pub mix : ℕ → ℕ → ℕ → Plane → Plane
 mix m i j p = ups m (rots i p ⊞ rots j p)

@@ -14,12 +14,11 @@ use crate::round::rotated4;
 use crate::round::up;
 use crate::round::xor4;
 
-// The plane rotated by i, xor the plane rotated by j: first apart by what j has more, then both by i, which takes a copy less.
 fn spread(i: u32, j: u32, p: Plane) -> Plane
-    requires { ⌜ (0 < i) × (i < j) × (j < 32) ⌝ }
+    requires { ⌜ (0 < i) × (i < 32) × (0 < j) × (j < 32) ⌝ }
     ensures { λ r. ⌜ r ≡ xoodoo.spread i j p ⌝ }
 {
-    rotated4(xor4(p, rotated4(p, j - i)), i)
+    xor4(rotated4(p, i), rotated4(p, j))
 }
 
 // The parity before theta, from the one after it. The definition's last three steps together add rotations by 0, 4, 8, 12 and 20.

@@ -183,19 +183,6 @@ pub fn front6(s: State) -> Six
     }
 }
 
-pub fn xor6(a: Six, b: Six) -> Six
-    ensures { λ r. ⌜ sixBytes r ≡ addFront (sixBytes a) (sixBytes b) ⌝ }
-{
-    Six {
-        x0: a.x0 ^ b.x0,
-        x1: a.x1 ^ b.x1,
-        x2: a.x2 ^ b.x2,
-        x3: a.x3 ^ b.x3,
-        x4: a.x4 ^ b.x4,
-        x5: a.x5 ^ b.x5,
-    }
-}
-
 // A block of 16 bytes is added at byte 0.
 pub fn add4(s: State, x: Plane) -> State
     ensures { λ r. ⌜ toBytes r ≡ addFront (toBytes s) (planeBytes x) ⌝ }

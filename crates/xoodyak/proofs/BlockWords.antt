@@ -3,12 +3,11 @@ use mathlib.Core.Path.{_≡_, refl, sym, ap, ap₂, _∙_}
 use mathlib.Core.List.{List, [], _∷_}
 use Prim.Native.Nat.{ℕ, zero, suc, _≤_}
 use native.Mathlib.Nat.{le-of-suc-le-suc, not-suc-le-zero}
-use lib.Dec.{lit≤}
 use lib.ListN.{length, take, replicate}
 use Rattle.laws.specs.Words.{_⊕_, _⊙_}
 use Rattle.laws.specs.Lists.{addFront, addAt}
 use Rattle.laws.proofs.Words.{⊕-comm, ⊕-zero}
-use Rattle.laws.proofs.Lists.{addFront-nil, addFront-take}
+use Rattle.laws.proofs.Lists.{addFront-nil}
 use Rattle.xoodoo.specs.Xoodoo.{planeBytes, xoodoo}
 use Rattle.xoodoo.proofs.BlockBytes.{one-bytes}
 use Rattle.xoodyak.specs.declared.cyclist.Mode.{Mode}
@@ -25,26 +24,18 @@ take-addFront s [] h = refl
 take-addFront [] (b ∷ x) h = absurd (not-suc-le-zero h)
 take-addFront (a ∷ s) (b ∷ x) h = ap₂ _∷_ (⊕-comm a b) (take-addFront s x (le-of-suc-le-suc h))
 
--- a full block m, encrypted: v is s, the state after Up, and u gains the block's words x
-module _ {m x s v u : List ℕ} (l : length m ≡ 24) (ex : x ≡ m) (ev : v ≡ s) (eu : u ≡ addFront v x) where
-  pub encrypted-end : {r : List ℕ} → r ≡ addAt u 24 1 → r ≡ addAt (addFront s m) (length m) 1
+-- a block m of k bytes met in words: v is s, the state after Up, u gains the block's words x, and f is the front of u
+module _ {m x s v u : List ℕ} {k : ℕ} (l : length m ≡ k) (ex : x ≡ m) (ev : v ≡ s) (eu : u ≡ addFront v x) where
+  pub encrypted-end : {r : List ℕ} → r ≡ addAt u k 1 → r ≡ addAt (addFront s m) (length m) 1
   encrypted-end er = rw (er, eu, ex, ev, l)
 
-  pub encrypted-out : {f y : List ℕ} → length v ≡ 48 → f ≡ take 24 u → y ≡ f → y ≡ addFront m s
-  encrypted-out n ef ey = rw (ey, ef, eu, ex, ev, ← l) (take-addFront s m (rw (l, ← ev, n) (lit≤ tt)))
+  module _ {f : List ℕ} (n : length v ≡ 48) (h : k ≤ 48) (ef : f ≡ take k u) where
+    pub met-out : {y : List ℕ} → y ≡ f → y ≡ addFront m s
+    met-out ey = rw (ey, ef, eu, ex, ev, ← l) (take-addFront s m (rw (l, ← ev, n) h))
 
--- a block m of k bytes met in words: v is s, the state after Up, u gains the block's words x, and f is the front of u
-module _ {m x s v u f : List ℕ} {k : ℕ} (l : length m ≡ k) (ex : x ≡ m) (ev : v ≡ s) (eu : u ≡ addFront v x) (n : length v ≡ 48) (h : k ≤ 48) (ef : f ≡ take k u) where
-  pub met-out : {y : List ℕ} → y ≡ f → y ≡ addFront m s
-  met-out ey = rw (ey, ef, eu, ex, ev, ← l) (take-addFront s m (rw (l, ← ev, n) h))
-
--- a full block b, decrypted: f is the front of the state, and the words m are the plaintext
-module _ {b x s v f m : List ℕ} (l : length b ≡ 24) (ex : x ≡ b) (ev : v ≡ s) (ef : f ≡ take 24 v) (em : m ≡ addFront x f) where
-  pub decrypted-out : {y : List ℕ} → y ≡ m → y ≡ addFront b s
-  decrypted-out ey = rw (ey, em, ex, ef, ev, ← l) (addFront-take b s)
-
-  pub decrypted-end : {u r : List ℕ} → u ≡ addFront v m → r ≡ addAt u 24 1 → r ≡ addAt (addFront s (addFront b s)) (length b) 1
-  decrypted-end eu er = rw (er, eu, decrypted-out refl, ev, l)
+    -- what is met is the plaintext, and goes into Down
+    pub decrypted-end : {w r : List ℕ} → w ≡ addFront v f → r ≡ addAt w k 1 → r ≡ addAt (addFront s (addFront m s)) (length m) 1
+    decrypted-end ew er = rw (er, ew, met-out refl, ev, l)
 
 addAt-zero : (s : List ℕ) (i : ℕ) → addAt s i 0 ≡ s
 addAt-zero [] i = refl

@@ -2,9 +2,11 @@
 ghost use mathlib.Core.Path.{_≡_};
 ghost use Prim.Native.Nat.{_≤_, _<_};
 ghost use lib.ListN.{length};
+ghost use Rattle.laws.specs.Blocks.{sizes};
 ghost use Rattle.xoodoo.specs.Xoodoo.{toBytes};
+ghost use Rattle.xoodyak.specs.declared.cyclist.Mode.{Mode};
 ghost use Rattle.xoodyak.specs.declared.cyclist.Phase.the-variants.{Up};
-ghost use Rattle.xoodyak.specs.Cyclist.{fresh, absorbRate, squeezeRate, upColour, up, down, ready, absorb, absorbMore, squeezeEnd, squeezeOut, squeezeMoreEnd, squeezeMoreOut};
+ghost use Rattle.xoodyak.specs.Cyclist.{fresh, absorbRate, squeezeRate, upColour, up, down, ready, absorb, absorbMore, nextsEnd, nextsOut, squeezeEnd, squeezeOut, squeezeMoreEnd, squeezeMoreOut};
 use crate::bytes::least;
 use crate::words::absorb_block;
 use crate::words::down_words;
@@ -14,6 +16,7 @@ use xoodoo::round::State;
 use xoodoo::words::colour;
 use xoodoo::words::from_words;
 use xoodoo::words::permute_bytes;
+use xoodoo::words::permute_words;
 use xoodoo::words::to_words;
 
 pub enum Mode {
@@ -30,6 +33,24 @@ pub struct Duplex {
     pub st: [u8; 48],
     pub mode: Mode,
     pub phase: Phase,
+}
+
+// Squeeze_more in the words that an Up left, in either mode.
+fn squeeze_words(w: State, rate: usize, out: &mut [u8]) -> State
+    requires { ⌜ (0 < rate) × (rate ≤ 24) ⌝ }
+    ensures { λ r. ⌜ ((m : Mode) → record { st = toBytes r; mode = m; phase = Up } ≡ nextsEnd (sizes rate (length (now (out .entry)))) (record { st = toBytes w; mode = m; phase = Up })) ⌝ }
+    ensures { λ _. ⌜ ((m : Mode) → now (out .exit) ≡ nextsOut (sizes rate (length (now (out .entry)))) (record { st = toBytes w; mode = m; phase = Up })) ⌝ }
+{
+    let n = out.len();
+    let mut v = w;
+    let mut i = 0;
+    while i < n {
+        let e = i + least(rate, n - i);
+        v = next_words(v);
+        write_front(v, &mut out[i..e]);
+        i = e;
+    }
+    v
 }
 
 impl Duplex {
@@ -183,30 +204,23 @@ impl Duplex {
         let rate = self.squeeze_rate();
         let mode = self.mode;
         let st = self.st;
-        let mut v = to_words(&st);
-        let mut i = 0;
-        while i < n {
-            let e = i + least(rate, n - i);
-            v = next_words(v);
-            write_front(v, &mut out[i..e]);
-            i = e;
-        }
-        let after = from_words(v);
-        Duplex {
-            st: after,
-            mode: mode,
-            phase: Phase::Up,
-        }
+        Duplex::after_up(squeeze_words(to_words(&st), rate, out), mode)
     }
 
     pub(crate) fn squeeze_any(self, out: &mut [u8], cu: u8) -> Duplex
         ensures { λ r. ⌜ r ≡ squeezeEnd self (length (now (out .entry))) cu ⌝ }
         ensures { λ _. ⌜ now (out .exit) ≡ squeezeOut self (length (now (out .entry))) cu ⌝ }
     {
-        let k = least(self.squeeze_rate(), out.len());
-        let d = self.up(cu);
-        let st = d.st;
-        write_front(to_words(&st), &mut out[..k]);
-        d.squeeze_more(&mut out[k..])
+        let n = out.len();
+        let rate = self.squeeze_rate();
+        let k = least(rate, n);
+        let mode = self.mode;
+        let v = permute_words(self.coloured(cu));
+        write_front(v, &mut out[..k]);
+        // most squeezes end here, and need not hand their words on
+        if k == n {
+            return Duplex::after_up(v, mode);
+        }
+        Duplex::after_up(squeeze_words(v, rate, &mut out[k..]), mode)
     }
 }

@@ -21,6 +21,7 @@ use crate::numbers::key_number;
 use crate::numbers::missing;
 use crate::numbers::room_number;
 use crate::words::decrypt_block;
+use crate::words::decrypt_full;
 use crate::words::encrypt_block;
 use xoodoo::words::from_words;
 
@@ -120,10 +121,13 @@ impl Duplex {
         // 80 is added once, before the loop, and every block's Up has 00
         let mut v = self.coloured(0x80);
         let mut i = 0;
-        while i < n {
-            let e = i + least(24, n - i);
-            v = decrypt_block(v, &mut buf[i..e]);
-            i = e;
+        // full blocks by themselves, so that their loop holds no words for the other lengths
+        while 24 <= n - i {
+            v = decrypt_full(v, &mut buf[i..i + 24]);
+            i = i + 24;
+        }
+        if i < n {
+            v = decrypt_block(v, &mut buf[i..n]);
         }
         let st = from_words(v);
         Duplex {

@@ -25,7 +25,6 @@ use xoodoo::words::pad24;
 use xoodoo::words::pad44;
 use xoodoo::words::permute_words;
 use xoodoo::words::to_words;
-use xoodoo::words::xor6;
 
 fn word(a: u8, b: u8, c: u8, d: u8) -> u32
     ensures { λ r. ⌜ wordBytes r ≡ a ∷ b ∷ c ∷ d ∷ [] ⌝ }
@@ -175,7 +174,8 @@ pub(crate) fn next_words(v: State) -> State
     permute_words(add4(v, one))
 }
 
-// One block, encrypted where it lies: Up with 00, and Down with what the block was.
+// One block, encrypted where it lies: Up with 00, and Down with what the block was. Lengths are told apart after the permutation:
+// before it, the compiler would load its words four at a time, which waits for their stores.
 pub(crate) fn encrypt_block(w: State, buf: &mut [u8]) -> State
     requires { ⌜ length (now buf) ≤ 24 ⌝ }
     ensures { λ r. ⌜ toBytes r ≡ addAt (addFront (xoodoo (toBytes w)) (now (buf .entry))) (length (now (buf .entry))) 1 ⌝ }
@@ -188,27 +188,42 @@ pub(crate) fn encrypt_block(w: State, buf: &mut [u8]) -> State
         put24(buf, front6(u));
         return pad24(u);
     }
+    if n == 16 {
+        let u = add4(v, get16(buf, 0));
+        put16(buf, front4(u));
+        return pad16(u);
+    }
     let after = down_words(v, buf);
     let stream = from_words(v);
     xor_into(buf, &stream[..n]);
     after
 }
 
-// One block, decrypted where it lies: Down with what the block becomes.
+// A full block, decrypted where it lies: Down with what the block becomes.
+pub(crate) fn decrypt_full(w: State, buf: &mut [u8]) -> State
+    requires { ⌜ length (now buf) ≡ 24 ⌝ }
+    ensures { λ r. ⌜ toBytes r ≡ addAt (addFront (xoodoo (toBytes w)) (addFront (now (buf .entry)) (xoodoo (toBytes w)))) (length (now (buf .entry))) 1 ⌝ }
+    ensures { λ _. ⌜ now (buf .exit) ≡ addFront (now (buf .entry)) (xoodoo (toBytes w)) ⌝ }
+{
+    let v = permute_words(w);
+    let m = front6(add6(v, get24(buf)));
+    put24(buf, m);
+    pad24(add6(v, m))
+}
+
+// The same of a block of any length, for those that are not full.
 pub(crate) fn decrypt_block(w: State, buf: &mut [u8]) -> State
     requires { ⌜ length (now buf) ≤ 24 ⌝ }
     ensures { λ r. ⌜ toBytes r ≡ addAt (addFront (xoodoo (toBytes w)) (addFront (now (buf .entry)) (xoodoo (toBytes w)))) (length (now (buf .entry))) 1 ⌝ }
     ensures { λ _. ⌜ now (buf .exit) ≡ addFront (now (buf .entry)) (xoodoo (toBytes w)) ⌝ }
 {
-    let n = buf.len();
-    // permuted in each branch, so that the words of a full block need not be kept for the other
-    if n == 24 {
-        let v = permute_words(w);
-        let m = xor6(get24(buf), front6(v));
-        put24(buf, m);
-        return pad24(add6(v, m));
-    }
     let v = permute_words(w);
+    let n = buf.len();
+    if n == 16 {
+        let m = front4(add4(v, get16(buf, 0)));
+        put16(buf, m);
+        return pad16(add4(v, m));
+    }
     let stream = from_words(v);
     xor_into(buf, &stream[..n]);
     down_words(v, buf)
