@@ -8,7 +8,7 @@ use native.Mathlib.Omega.{arith}
 use lib.Arith.{digits-lt, digits-div, digits-mod}
 use lib.Pow.{pow-pos, pow-add, shl-shr, shr-lt, shr-shr, mod-pow-add}
 use lib.Bits.{bitOr, bitXor, and-block, or-shifted, xor-block, xor-mod, xor-shr, xor-shifted}
-use Rattle.laws.specs.Words.{_⊕_, _⊙_, rotl}
+use Rattle.laws.specs.Words.{_⊕_, _⊙_, not32, rotl}
 use Rattle.laws.proofs.Words.{xor-sum, ⊕-lt, ⊙-lt}
 
 -- the j low digits come first, and then the k high ones
@@ -79,6 +79,16 @@ pub rot-lt : (k : ℕ) {w : ℕ} → w < 2 ^ 32 → rot k w < 2 ^ 32
 unfolding rot
 rot-lt zero h = h
 rot-lt (suc k) {w} h = turn-lt (rot k w) (rot-lt k h)
+
+-- all ones stay all ones
+turn-ones : turn (not32 0) ≡ not32 0
+unfolding turn not32 _⊕_
+turn-ones = refl
+
+pub rot-ones : (k : ℕ) → rot k (not32 0) ≡ not32 0
+unfolding rot
+rot-ones zero = refl
+rot-ones (suc k) = ap turn (rot-ones k) ∙ turn-ones
 
 -- ---- the two forms agree
 -- the top digit of a word of 32 moves to the bottom

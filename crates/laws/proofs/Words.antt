@@ -1,10 +1,10 @@
 -- Xor, and, not of words: by their bits.
 use mathlib.Core.Path.{_≡_, refl, sym, ap, _∙_}
-use Prim.Native.Nat.{ℕ, zero, suc, _+_, _-_, _*_, _/_, _%_, _^_, _<_, min}
+use Prim.Native.Nat.{ℕ, zero, suc, _+_, _-_, _*_, _/_, _%_, _^_, _<_, min, max}
 use native.Mathlib.Nat.{mod-lt, zero-lt-suc, pow-suc}
 use native.Mathlib.Omega.{arith}
 use lib.Arith.{bin-ind, digits-div, digits-mod, lt-one}
-use lib.Bits.{differ, and-step, xor-step, and-zero-r, xor-comm, xor-self, xor-zero-l, xor-zero-r, xor-lt, and-lt}
+use lib.Bits.{bitOr, differ, and-step, or-step, xor-step, and-zero-r, and-comm, xor-comm, xor-self, xor-zero-l, xor-zero-r, xor-lt, and-lt, or-lt}
 use Rattle.laws.specs.Words.{_⊕_, _⊙_}
 
 -- ---- digits
@@ -51,6 +51,15 @@ unfolding _⊙_
 
 ⊙-odd : (a b : ℕ) → (a ⊙ b) % 2 ≡ min (a % 2) (b % 2)
 ⊙-odd a b = rw (⊙-step a b) (digits-mod (a / 2 ⊙ b / 2) (min-lt a b))
+
+max-lt : (x y : ℕ) → max (x % 2) (y % 2) < 2
+max-lt = digits-lt-two max (omega arith) (omega arith) (omega arith) (omega arith)
+
+or-half : (a b : ℕ) → bitOr a b / 2 ≡ bitOr (a / 2) (b / 2)
+or-half a b = rw (or-step a b) (digits-div (bitOr (a / 2) (b / 2)) (max-lt a b))
+
+or-odd : (a b : ℕ) → bitOr a b % 2 ≡ max (a % 2) (b % 2)
+or-odd a b = rw (or-step a b) (digits-mod (bitOr (a / 2) (b / 2)) (max-lt a b))
 
 -- ---- bits
 -- the digit of w at place i
@@ -190,3 +199,35 @@ not-and (suc k) a b ha hb =
     half-ext _ _
     (rw (⊙-half, not-half k a ha, ⊕-half, ⊙-half) (not-and k (a / 2) (b / 2) (half-lt k a ha) (half-lt k b hb)))
     (rw (⊙-odd, not-odd k a ha, ⊕-odd, ⊙-odd) (odd-not-and a b))
+
+-- a sum's not is that of one of its parts, with the other added
+odd-not-sum : (a b : ℕ) → 1 - differ (a % 2) (b % 2) ≡ differ (1 - a % 2) (b % 2)
+odd-not-sum a b =
+    digit-cases (λ (x : ℕ). 1 - differ x (b % 2) ≡ differ (1 - x) (b % 2))
+    (digit-cases (λ (y : ℕ). 1 - differ 0 y ≡ differ 1 y) refl refl b)
+    (digit-cases (λ (y : ℕ). 1 - differ 1 y ≡ differ 0 y) refl refl b) a
+
+pub not-sum : (k a b : ℕ) → a < 2 ^ k → b < 2 ^ k → 2 ^ k - 1 - (a ⊕ b) ≡ (2 ^ k - 1 - a) ⊕ b
+not-sum zero a b ha hb = rw (lt-one ha, lt-one hb, ⊕-zero) refl
+not-sum (suc k) a b ha hb =
+    half-ext _ _
+    (rw (not-half k (a ⊕ b) (⊕-lt (suc k) ha hb), ⊕-half, ⊕-half, not-half k a ha) (not-sum k (a / 2) (b / 2) (half-lt k a ha) (half-lt k b hb)))
+    (rw (not-odd k (a ⊕ b) (⊕-lt (suc k) ha hb), ⊕-odd, ⊕-odd, not-odd k a ha) (odd-not-sum a b))
+
+-- what neither has is what the two together have not
+odd-not-or : (a b : ℕ) → min (1 - a % 2) (1 - b % 2) ≡ 1 - max (a % 2) (b % 2)
+odd-not-or a b =
+    digit-cases (λ (x : ℕ). min (1 - x) (1 - b % 2) ≡ 1 - max x (b % 2))
+    (digit-cases (λ (y : ℕ). min 1 (1 - y) ≡ 1 - max 0 y) refl refl b)
+    (digit-cases (λ (y : ℕ). min 0 (1 - y) ≡ 1 - max 1 y) refl refl b) a
+
+pub not-or : (k a b : ℕ) → a < 2 ^ k → b < 2 ^ k → (2 ^ k - 1 - a) ⊙ (2 ^ k - 1 - b) ≡ 2 ^ k - 1 - bitOr a b
+not-or zero a b ha hb = rw (lt-one ha, lt-one hb) (⊙-zero 0)
+not-or (suc k) a b ha hb =
+    half-ext _ _
+    (rw (⊙-half, not-half k a ha, not-half k b hb, not-half k (bitOr a b) (or-lt (suc k) a b ha hb), or-half) (not-or k (a / 2) (b / 2) (half-lt k a ha) (half-lt k b hb)))
+    (rw (⊙-odd, not-odd k a ha, not-odd k b hb, not-odd k (bitOr a b) (or-lt (suc k) a b ha hb), or-odd) (odd-not-or a b))
+
+pub ⊙-comm : (a b : ℕ) → a ⊙ b ≡ b ⊙ a
+unfolding _⊙_
+⊙-comm = and-comm

@@ -118,7 +118,7 @@ unfolding rounds unrounds
 rounds-inverse [] h = id-inverse
 rounds-inverse (c ∷ cs) h = then (round-inverse c (h .0)) (rounds-inverse cs (h .1))
 
-constants-all : All (2 ^ 32) constants
+pub constants-all : All (2 ^ 32) constants
 unfolding constants
 constants-all = omega arith
 

@@ -7,6 +7,7 @@ pub mod WordBytes
 pub mod Inverse
 pub mod Walk
 pub mod Turned
+pub mod Nots
 pub mod Known
 pub mod Runs
 pub mod BlockBytes

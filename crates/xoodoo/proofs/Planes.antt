@@ -31,7 +31,7 @@ pub record Good (s : State) : Type 0 where
   pub g2 : Words (s .p2)
 
 -- ---- sums
-pub none : Plane
+unfoldable pub none : Plane
 none = record { x0 = 0; x1 = 0; x2 = 0; x3 = 0 }
 
 pub ⊞-assoc : (p q r : Plane) → (p ⊞ q) ⊞ r ≡ p ⊞ (q ⊞ r)

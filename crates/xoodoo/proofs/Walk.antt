@@ -39,6 +39,14 @@ pub unrounds-next : (cs : List ℕ) (i : ℕ) (s : State) → i < length cs
 unfolding unrounds
 unrounds-next cs i s h = ap (λ (l : List ℕ). unrounds l s) (next cs i h)
 
+-- two at once
+pub unrounds-two : (cs : List ℕ) (i : ℕ) (s : State) → i + 1 < length cs
+    → unrounds (drop i cs) s ≡ unround (getD cs i 0) (unround (getD cs (i + 1) 0) (unrounds (drop (i + 2) cs) s))
+unrounds-two cs i s h =
+    let e : i + 1 + 1 ≡ i + 2 = omega arith in
+    unrounds-next cs i s (omega arith)
+    ∙ ap (unround (getD cs i 0)) (unrounds-next cs (i + 1) s h ∙ ap (λ (n : ℕ). unround (getD cs (i + 1) 0) (unrounds (drop n cs) s)) e)
+
 pub unrounds-none : (cs : List ℕ) (s : State) → unrounds (drop (length cs) cs) s ≡ s
 unfolding unrounds
 unrounds-none cs s = ap (λ (l : List ℕ). unrounds l s) (drop-length cs)

@@ -4,6 +4,7 @@ ghost use lib.ListN.{replicate};
 ghost use Rattle.xoodoo.specs.Xoodoo as xoodoo;
 ghost use Rattle.xoodoo.specs.Calls.{addByteOf, addBytesOf, extractBytesOf, roundsOf, unroundsOf};
 
+mod complement;
 mod frame;
 pub mod round;
 mod unround;

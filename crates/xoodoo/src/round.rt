@@ -134,7 +134,7 @@ pub(crate) fn iota(c: u32, s: State) -> State
 }
 
 // Each word of a gains (not b) and c.
-fn gained4(a: Plane, b: Plane, c: Plane) -> Plane
+pub(crate) fn gained4(a: Plane, b: Plane, c: Plane) -> Plane
     ensures { λ r. ⌜ r ≡ gains a b c ⌝ }
 {
     Plane {

@@ -3,6 +3,10 @@ ghost use mathlib.Core.Path.{_≡_};
 ghost use Prim.Native.Nat.{_<_, _≤_};
 ghost use Rattle.xoodoo.specs.Xoodoo as xoodoo;
 ghost use Rattle.xoodoo.specs.Xoodoo.{unrhoWest, unrhoEast, lastOf};
+ghost use Rattle.xoodoo.specs.Frame.{notOne, notTwo};
+use crate::complement::chi_to_one;
+use crate::complement::chi_to_two;
+use crate::complement::not_one;
 use crate::round::Plane;
 use crate::round::ROUND_KEYS;
 use crate::round::State;
@@ -66,6 +70,34 @@ fn unround(c: u32, s: State) -> State
     ensures { λ r. ⌜ r ≡ xoodoo.unround c s ⌝ }
 {
     untheta(unrho_west(iota(c, chi(unrho_east(s)))))
+}
+
+// With planes held complemented, as the quick rounds have them.
+fn unround_to_two(c: u32, s: State) -> State
+    ensures { λ r. ⌜ r ≡ notTwo (xoodoo.unround c (notOne s)) ⌝ }
+{
+    untheta(unrho_west(iota(c, chi_to_two(unrho_east(s)))))
+}
+
+fn unround_to_one(c: u32, s: State) -> State
+    ensures { λ r. ⌜ r ≡ notOne (xoodoo.unround c (notTwo s)) ⌝ }
+{
+    untheta(unrho_west(iota(c, chi_to_one(unrho_east(s)))))
+}
+
+// All twelve rounds taken back, quicker.
+pub(crate) fn twelve_unrounds(s: State) -> State
+    ensures { λ r. ⌜ r ≡ xoodoo.unrounds xoodoo.constants s ⌝ }
+{
+    // copied once: an index into the constant itself would build the table at each read
+    let keys = ROUND_KEYS;
+    let mut t = not_one(s);
+    let mut i: usize = 12;
+    while 0 < i {
+        i -= 2;
+        t = unround_to_one(keys[i], unround_to_two(keys[i + 1], t));
+    }
+    not_one(t)
 }
 
 // The rounds of the last n constants taken back.

@@ -11,7 +11,7 @@ use crate::frame::twelve_rounds;
 use crate::round::Plane;
 use crate::round::State;
 use crate::round::xor4;
-use crate::unround::unrounds;
+use crate::unround::twelve_unrounds;
 
 // The words of a block of 24 bytes; a plane has those of 16.
 pub struct Six {
@@ -142,7 +142,7 @@ pub fn permute_bytes(st: &mut [u8; 48])
 fn inverted(b: [u8; 48]) -> State
     ensures { λ r. ⌜ (length b ≡ 48) × (toBytes r ≡ inverse b) ⌝ }
 {
-    unrounds(12, load(&b))
+    twelve_unrounds(load(&b))
 }
 
 // Alike, where the bytes lie.

@@ -1,9 +1,9 @@
--- Four turns by 24 change nothing.
+-- Four turns by 24 change nothing, and complements come in pairs.
 use Prim.Native.Nat.{_^_, _<_}
 use borrow.Author.Needs.{needs}
 use Rattle.xoodoo.proofs.Planes.{Good}
 use Rattle.xoodoo.proofs.Known.{known}
-use Rattle.xoodoo.proofs.Turned.{four-turns}
+use Rattle.xoodoo.proofs.Nots.{four-quick}
 use Rattle.xoodoo.proofs.frame.four_rounds.Statement.{statement}
 use Rattle.xoodoo.proofs.frame.four_rounds.Tie as tie
 
@@ -15,7 +15,7 @@ returns c =
     let d : o .args .c < 2 ^ 32 = search needs in
     let e : o .args .d < 2 ^ 32 = search needs in
     let g : Good (o .args .s) = known (o .args .s) _ (o .good .1 .1 .1 .1 .0) in
-    cc (four-turns a b d e g)
+    cc (four-quick a b d e g)
 
 pub four-rounds-spec : {M : Type 1} → statement M
 four-rounds-spec =
