@@ -72,15 +72,15 @@ rot-gain k a b c hb hc =
     ∙ sym (ap (rot k) (gain-is a b c hb hc) ∙ rw (rot-⊕, rot-⊕, rot-⊙ k b c hb hc))
 
 -- ---- complemented
-not-lt : (w : ℕ) → not32 w < 2 ^ 32
+pub not-lt : (w : ℕ) → not32 w < 2 ^ 32
 unfolding not32
 not-lt w = ones-sub-lt 32 w
 
-pub not-not : {w : ℕ} → w < 2 ^ 32 → not32 (not32 w) ≡ w
+not-not : {w : ℕ} → w < 2 ^ 32 → not32 (not32 w) ≡ w
 unfolding not32
 not-not h = omega arith
 
-not-added : {a b : ℕ} → a < 2 ^ 32 → b < 2 ^ 32 → not32 (a ⊕ b) ≡ not32 a ⊕ b
+pub not-added : {a b : ℕ} → a < 2 ^ 32 → b < 2 ^ 32 → not32 (a ⊕ b) ≡ not32 a ⊕ b
 unfolding not32
 not-added {a} {b} ha hb = not-sum 32 a b ha hb
 

@@ -3,10 +3,10 @@ use mathlib.Core.Path.{_≡_, refl, ap, _∙_}
 use mathlib.Core.List.{List, [], _∷_}
 use Prim.Native.Nat.{ℕ, _-_, _^_, _<_}
 use native.Mathlib.Omega.{arith}
-use lib.ListN.{length}
+use lib.ListN.{length, getD}
 use Rattle.laws.specs.Lists.{All, Bytes48}
 use Rattle.laws.proofs.Words.{⊕-lt, ⊕-back}
-use Rattle.laws.proofs.Bytes.{all-drop}
+use Rattle.laws.proofs.Bytes.{all-drop, all-getD}
 use Rattle.xoodoo.specs.Xoodoo.{up, theta, untheta, rhoWest, unrhoWest, iota, gains, chi, rhoEast, unrhoEast, round, unround, rounds, unrounds, constants, lastOf, fromBytes, toBytes, xoodooRounds, inverseRounds, xoodoo, inverse}
 use Rattle.xoodoo.specs.declared.round.Plane.{Plane}
 use Rattle.xoodoo.specs.declared.round.State.{State}
@@ -118,9 +118,12 @@ unfolding rounds unrounds
 rounds-inverse [] h = id-inverse
 rounds-inverse (c ∷ cs) h = then (round-inverse c (h .0)) (rounds-inverse cs (h .1))
 
-pub constants-all : All (2 ^ 32) constants
+constants-all : All (2 ^ 32) constants
 unfolding constants
 constants-all = omega arith
+
+pub constant-lt : (i : ℕ) → getD constants i 0 < 2 ^ 32
+constant-lt i = all-getD (2 ^ 32) constants (omega arith) constants-all i
 
 last-inverse : (n : ℕ) → Inverse (rounds (lastOf n)) (unrounds (lastOf n))
 unfolding lastOf
@@ -181,7 +184,3 @@ inverse-keeps {b} h = inverseRounds-keeps 12 b
 pub xoodoo-length : (b : List ℕ) → length (xoodoo b) ≡ 48
 unfolding xoodoo
 xoodoo-length b = xoodooRounds-keeps 12 b .size
-
-pub inverse-length : (b : List ℕ) → length (inverse b) ≡ 48
-unfolding inverse
-inverse-length b = inverseRounds-keeps 12 b .size

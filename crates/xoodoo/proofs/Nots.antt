@@ -4,17 +4,16 @@ use mathlib.Core.Path.{_≡_, refl, sym, ap, _∙_}
 use mathlib.Core.List.{[], _∷_}
 use Prim.Native.Nat.{ℕ, _^_, _≤_, _<_}
 use native.Mathlib.Omega.{arith}
-use lib.Pow.{ones-sub-lt}
 use Rattle.laws.specs.Words.{_⊕_, _⊙_, not32, rotl}
 use Rattle.laws.specs.Lists.{All}
-use Rattle.laws.proofs.Words.{⊕-comm, zero-⊕, xor-sum, not-sum}
+use Rattle.laws.proofs.Words.{⊕-comm, zero-⊕, xor-sum}
 use Rattle.laws.proofs.Rotation.{rot-ones, rotl-lt}
 use Rattle.xoodoo.specs.Xoodoo.{each, _⊞_, up, parity, effect, addPlanes, theta, untheta, rhoWest, unrhoWest, iota, gain, gains, chi, rhoEast, unrhoEast, round, unround, rounds}
 use Rattle.xoodoo.specs.Frame.{turned, notOne, notTwo, gainsAnd, gainsOr}
 use Rattle.xoodoo.specs.declared.round.Plane.{Plane}
 use Rattle.xoodoo.specs.declared.round.State.{State}
 use Rattle.xoodoo.proofs.Planes.{plane≡, state≡, Words, Good, none, ⊞-none, ⊞-self, plane-sum, ⊞-words, rots, rots-⊞, rotls-is, rotls-words}
-use Rattle.xoodoo.proofs.Chi.{gain-not, gain-and, gain-or, gain-or-not, gain-swap}
+use Rattle.xoodoo.proofs.Chi.{not-lt, not-added, gain-not, gain-and, gain-or, gain-or-not, gain-swap}
 use Rattle.xoodoo.proofs.Theta.{parity-words}
 use Rattle.xoodoo.proofs.Inverse.{Inverse, theta-inverse, rhoWest-inverse, iota-inverse, chi-inverse, rhoEast-inverse, round-inverse, rounds-inverse}
 use Rattle.xoodoo.proofs.Turned.{four-turns}
@@ -133,22 +132,17 @@ none-still =
       words = record { w0 = omega arith; w1 = omega arith; w2 = omega arith; w3 = omega arith };
     }
 
-ones-lt : not32 0 < 2 ^ 32
-unfolding not32
-ones-lt = ones-sub-lt 32 0
-
 ones-still : Still ones
 unfolding ones rots up
 ones-still =
     record {
       turns = λ k. plane≡ (rot-ones k) (rot-ones k) (rot-ones k) (rot-ones k);
       shifts = refl;
-      words = record { w0 = ones-lt; w1 = ones-lt; w2 = ones-lt; w3 = ones-lt };
+      words = record { w0 = not-lt 0; w1 = not-lt 0; w2 = not-lt 0; w3 = not-lt 0 };
     }
 
 not-is : {w : ℕ} → w < 2 ^ 32 → not32 w ≡ w ⊕ not32 0
-unfolding not32
-not-is {w} h = ap (λ (v : ℕ). not32 v) (sym (zero-⊕ w)) ∙ not-sum 32 0 w (omega arith) h ∙ ⊕-comm (not32 0) w
+not-is {w} h = ap not32 (sym (zero-⊕ w)) ∙ not-added (omega arith) h ∙ ⊕-comm (not32 0) w
 
 nots-is : {p : Plane} → Words p → each not32 p ≡ p ⊞ ones
 unfolding ones _⊞_

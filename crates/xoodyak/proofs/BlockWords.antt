@@ -19,7 +19,7 @@ use Rattle.xoodyak.specs.Cyclist.{up, upBytes, upColour, down, downBytes
 
 -- ---- what is added
 -- the sum's front, whichever is added to the other
-pub take-addFront : (s x : List ℕ) → length x ≤ length s → take (length x) (addFront s x) ≡ addFront x s
+take-addFront : (s x : List ℕ) → length x ≤ length s → take (length x) (addFront s x) ≡ addFront x s
 take-addFront s [] h = refl
 take-addFront [] (b ∷ x) h = absurd (not-suc-le-zero h)
 take-addFront (a ∷ s) (b ∷ x) h = ap₂ _∷_ (⊕-comm a b) (take-addFront s x (le-of-suc-le-suc h))

@@ -1,15 +1,14 @@
 -- The rounds that are left, of the plain state now, are all twelve of the first state.
 use mathlib.Core.Path.{_≡_, refl, sym, ap, _∙_}
-use Prim.Native.Nat.{ℕ, _≤_, _<_, _-_, _+_, _%_, _^_}
+use Prim.Native.Nat.{_≤_, _-_, _+_, _%_}
 use native.Mathlib.Omega.{arith}
-use lib.ListN.{drop, getD}
+use lib.ListN.{drop}
 use borrow.Author.Needs.{needs}
-use Rattle.laws.proofs.Bytes.{all-getD}
 use Rattle.xoodoo.specs.Xoodoo.{rounds, constants}
 use Rattle.xoodoo.specs.Frame.{notOne}
 use Rattle.xoodoo.proofs.Planes.{Good}
 use Rattle.xoodoo.proofs.Known.{known}
-use Rattle.xoodoo.proofs.Inverse.{constants-all}
+use Rattle.xoodoo.proofs.Inverse.{constant-lt}
 use Rattle.xoodoo.proofs.Nots.{one, not-good, twice, quick-good}
 use Rattle.xoodoo.proofs.Walk.{rounds-four, rounds-end}
 use Rattle.xoodoo.proofs.frame.twelve_rounds.Statement.{statement}
@@ -28,15 +27,12 @@ begun c = known (c .before .args .s) _ (c .before .good .0)
 loop-holds : tie.Need-loop-holds Inv-loop μ-loop
 loop-holds c = (omega arith, refl, rw (c .not-one .ensures) (not-good one (begun c)), refl)
 
-key : (i : ℕ) → getD constants i 0 < 2 ^ 32
-key i = all-getD (2 ^ 32) constants (omega arith) constants-all i
-
 loop-again : tie.Need-loop-again Inv-loop μ-loop
 unfolding constants
 loop-again c =
     let o = c .before .before .loop in
     let i = o .i in
-    let g : Good (rounds _ (notOne (o .t))) = quick-good (key i) (key (i + 1)) (key (i + 2)) (key (i + 3)) (o .inv .2) in (
+    let g : Good (rounds _ (notOne (o .t))) = quick-good (constant-lt i) (constant-lt (i + 1)) (constant-lt (i + 2)) (constant-lt (i + 3)) (o .inv .2) in (
       omega arith,
       omega arith,
       rw (c .four-rounds .ensures) (not-good one g),

@@ -1,15 +1,14 @@
 -- The rounds from the i-th constant on are taken back, of the plain state.
 use mathlib.Core.Path.{_≡_, refl, sym, ap, _∙_}
-use Prim.Native.Nat.{ℕ, _≤_, _<_, _-_, _+_, _%_, _^_}
+use Prim.Native.Nat.{_≤_, _-_, _+_, _%_}
 use native.Mathlib.Omega.{arith}
 use lib.ListN.{drop, getD}
 use borrow.Author.Needs.{needs}
-use Rattle.laws.proofs.Bytes.{all-getD}
 use Rattle.xoodoo.specs.Xoodoo.{unround, unrounds, constants}
 use Rattle.xoodoo.specs.Frame.{notOne, notTwo}
 use Rattle.xoodoo.proofs.Planes.{Good}
 use Rattle.xoodoo.proofs.Known.{known}
-use Rattle.xoodoo.proofs.Inverse.{constants-all, round-inverse}
+use Rattle.xoodoo.proofs.Inverse.{constant-lt, round-inverse}
 use Rattle.xoodoo.proofs.Nots.{one, two, not-good, twice}
 use Rattle.xoodoo.proofs.Walk.{unrounds-two, unrounds-none}
 use Rattle.xoodoo.proofs.unround.twelve_unrounds.Statement.{statement}
@@ -28,9 +27,6 @@ loop-holds : tie.Need-loop-holds Inv-loop μ-loop
 unfolding constants
 loop-holds c = (omega arith, refl, rw (c .not-one .ensures) (not-good one (begun c)), sym (unrounds-none constants _))
 
-key : (i : ℕ) → getD constants i 0 < 2 ^ 32
-key i = all-getD (2 ^ 32) constants (omega arith) constants-all i
-
 loop-again : tie.Need-loop-again Inv-loop μ-loop
 unfolding constants
 loop-again c =
@@ -41,8 +37,8 @@ loop-again c =
     let a = getD constants j 0 in
     let b = getD constants (j + 1) 0 in
     let e : o .i ≡ j + 2 = omega arith in
-    let g : Good (unround b (notOne (o .t))) = round-inverse b (key (j + 1)) .keeps-back (not-good one (o .inv .2)) in
-    let h : Good (unround a (unround b (notOne (o .t)))) = round-inverse a (key j) .keeps-back g in
+    let g : Good (unround b (notOne (o .t))) = round-inverse b (constant-lt (j + 1)) .keeps-back (not-good one (o .inv .2)) in
+    let h : Good (unround a (unround b (notOne (o .t)))) = round-inverse a (constant-lt j) .keeps-back g in
     let now : c .unround-to-one .result ≡ notOne (unround a (unround b (notOne (o .t)))) =
     c .unround-to-one .ensures ∙ ap (λ t. notOne (unround a t)) (ap notTwo (c .before .unround-to-two .ensures) ∙ twice two g) in (
       omega arith,
