@@ -1,1 +1,2 @@
 // Mathematics that the proofs of several crates cite. No code of its own.
+#![tactic(auto)]

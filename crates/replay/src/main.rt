@@ -1,4 +1,5 @@
 // Answers a transcript: reads calls on standard input, one to a line, and writes one answer for each.
+#![tactic(auto)]
 mod aead_lines;
 mod back_lines;
 mod crypt_lines;

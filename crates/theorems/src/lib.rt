@@ -1,1 +1,2 @@
 // What is claimed of the crates below, proved. No code of its own.
+#![tactic(auto)]

@@ -5,7 +5,7 @@ ghost use Rattle.xoodoo.specs.Xoodoo as xoodoo;
 ghost use Rattle.xoodoo.specs.Xoodoo.{each, ◌⊞◌, gains, add_planes, last_of};
 
 // A word for each column.
-#[derive(Drop)]
+#[derive(Clone, Copy)]
 pub struct Plane {
     pub x0: u32,
     pub x1: u32,
@@ -13,7 +13,7 @@ pub struct Plane {
     pub x3: u32,
 }
 
-#[derive(Drop)]
+#[derive(Clone, Copy)]
 pub struct State {
     pub p0: Plane,
     pub p1: Plane,

@@ -11,13 +11,13 @@ use crate::words::{absorb_block, down_words, next_words, write_front};
 use xoodoo::round::State;
 use xoodoo::words::{colour, from_words, permute_bytes, permute_words, to_words};
 
-#[derive(Drop)]
+#[derive(Clone, Copy)]
 pub enum Mode {
     Hash,
     Keyed,
 }
 
-#[derive(Drop)]
+#[derive(Clone, Copy)]
 pub enum Phase {
     Up,
     Down,

@@ -15,14 +15,14 @@ use xoodoo::round::State;
 use xoodoo::words::{add6, front6, pad24, permute_words, to_words};
 
 // What a message is handed over for.
-#[derive(Drop)]
+#[derive(Clone, Copy)]
 pub enum Kind {
     Seal,
     Open,
 }
 
 // A message that may be unfinished: the place is 0 before its first byte, then the number of bytes in its last block.
-#[derive(Drop)]
+#[derive(Clone, Copy)]
 pub struct Message {
     pub begun: bool,
     pub kind: Kind,

@@ -1,4 +1,5 @@
 // Xoodyak: sessions that absorb, squeeze, encrypt and seal, over the permutation's promise.
+#![tactic(auto)]
 pub mod aead;
 pub mod bytes;
 pub mod cyclist;
@@ -19,7 +20,7 @@ use tag::Tag;
 
 // Whose rule an empty message follows: the crate's, where it does nothing, or the specification's, where it runs one
 // empty block.
-#[derive(Drop)]
+#[derive(Clone, Copy)]
 pub enum Rule {
     Crate,
     Specification,

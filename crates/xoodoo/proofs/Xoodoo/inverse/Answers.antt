@@ -1,0 +1,6 @@
+-- The rounds are taken back where the bytes lie.
+use borrow.Author.Rules.{rules}
+use Rattle.xoodoo.proofs.Xoodoo.inverse.Goals as goal
+
+pub returns : goal.returns
+returns c = rw c.inverse_bytes.ensures

@@ -1,0 +1,14 @@
+-- The test is the definition's; then load, the rounds, store.
+use borrow.Author.Rules.{rules}
+use borrow.Author.Tests.{le-leb, lt-leb}
+use Rattle.xoodoo.specs.Xoodoo.{inverse_rounds}
+use Rattle.xoodoo.specs.Calls.{unrounds_of}
+use Rattle.xoodoo.proofs.Xoodoo.unrounds.Goals as goal
+
+pub returns-then-n-le12 : goal.returns-then-n-le12
+unfolding unrounds_of inverse_rounds
+returns-then-n-le12 c = rw (le-leb _ _ c.if-n-le12.true) (cc)
+
+pub returns : goal.returns
+unfolding unrounds_of
+returns c = simp (lt-leb _ _ c.if-n-le12.false)

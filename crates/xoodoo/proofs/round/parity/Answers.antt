@@ -1,0 +1,8 @@
+-- The three planes are added.
+use borrow.Author.Rules.{rules}
+use Rattle.xoodoo.specs.Xoodoo.{parity}
+use Rattle.xoodoo.proofs.round.parity.Goals as goal
+
+pub returns : goal.returns
+unfolding parity
+returns c = cc

@@ -1,0 +1,8 @@
+-- The five steps in order.
+use borrow.Author.Rules.{rules}
+use Rattle.xoodoo.specs.Xoodoo.{round}
+use Rattle.xoodoo.proofs.round.round.Goals as goal
+
+pub returns : goal.returns
+unfolding round
+returns c = cc

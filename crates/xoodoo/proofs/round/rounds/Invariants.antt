@@ -1,0 +1,15 @@
+-- The rounds that are left, of the state now, are all n of the first state.
+use mathlib.Core.Path.{◌≡◌, refl, sym, ap, ◌∙◌}
+use Prim.Native.Nat.{◌≤◌, ◌-◌, ◌+◌}
+use native.Mathlib.Omega.{arith}
+use lib.ListN.{drop}
+use borrow.Author.Rules.{rules}
+use Rattle.xoodoo.specs.Xoodoo.{rounds, constants, last_of}
+use Rattle.xoodoo.proofs.Walk.{rounds-next, rounds-end}
+use Rattle.xoodoo.proofs.round.rounds.Given as goal
+
+abbrev pub invariant-loop-i : goal.invariant-loop-i
+invariant-loop-i l = (l.i ≤ 12) × (rounds (drop l.i constants) l.t ≡ rounds (last_of l.n) l.initial.t)
+
+abbrev pub decreases-loop-i : goal.decreases-loop-i
+decreases-loop-i l = 12 - l.i

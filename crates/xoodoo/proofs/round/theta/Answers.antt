@@ -1,0 +1,8 @@
+-- The effect of the parity is added, as defined.
+use borrow.Author.Rules.{rules}
+use Rattle.xoodoo.specs.Xoodoo.{theta}
+use Rattle.xoodoo.proofs.round.theta.Goals as goal
+
+pub returns : goal.returns
+unfolding theta
+returns c = cc

@@ -1,0 +1,15 @@
+-- The rounds from the i-th constant on are taken back.
+use mathlib.Core.Path.{◌≡◌, sym, ap, ◌∙◌}
+use Prim.Native.Nat.{◌≤◌, ◌-◌, ◌+◌}
+use native.Mathlib.Omega.{arith}
+use lib.ListN.{drop, get_or}
+use borrow.Author.Rules.{rules}
+use Rattle.xoodoo.specs.Xoodoo.{unround, unrounds, constants, last_of}
+use Rattle.xoodoo.proofs.Walk.{unrounds-next, unrounds-none}
+use Rattle.xoodoo.proofs.unround.unrounds.Given as goal
+
+abbrev pub invariant-loop-i : goal.invariant-loop-i
+invariant-loop-i l = (12 - l.n ≤ l.i) × (l.i ≤ 12) × (l.t ≡ unrounds (drop l.i constants) l.initial.t)
+
+abbrev pub decreases-loop-i : goal.decreases-loop-i
+decreases-loop-i l = l.i

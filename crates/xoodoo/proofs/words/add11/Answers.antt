@@ -1,0 +1,18 @@
+-- Adding words adds their bytes.
+use mathlib.Core.Path.{ap₂, ◌∙◌}
+use mathlib.Core.List.{[], ◌∷◌}
+use borrow.Author.Rules.{rules}
+use Rattle.laws.specs.Words.{◌⊕◌}
+use Rattle.xoodoo.specs.Xoodoo.{◌⊞◌, word_bytes, plane_bytes, to_bytes}
+use Rattle.xoodoo.specs.Words.{eleven_bytes}
+use Rattle.xoodoo.specs.declared.round.Plane.{Plane}
+use Rattle.xoodoo.proofs.WordBytes.{words_bytes, words-⊕}
+use Rattle.xoodoo.proofs.words.add11.Goals as goal
+
+pub returns : goal.returns
+unfolding to_bytes plane_bytes eleven_bytes words_bytes word_bytes ◌⊞◌ ◌⊕◌
+returns c =
+    let o = c.args in
+    let last : Plane = record { x0 = o.s.p2.x0 ⊕ o.x.x0; x1 = o.s.p2.x1 ⊕ o.x.x1; x2 = o.s.p2.x2 ⊕ o.x.x2; x3 = o.s.p2.x3 } in
+    ap₂ (λ (p q : Plane). to_bytes (record { p0 = p; p1 = q; p2 = last })) c.xor4.ensures c.xor4-2.ensures
+    ∙ words-⊕ (o.s.p0.x0 ∷ o.s.p0.x1 ∷ o.s.p0.x2 ∷ o.s.p0.x3 ∷ o.s.p1.x0 ∷ o.s.p1.x1 ∷ o.s.p1.x2 ∷ o.s.p1.x3 ∷ o.s.p2.x0 ∷ o.s.p2.x1 ∷ o.s.p2.x2 ∷ o.s.p2.x3 ∷ []) (o.x.p0.x0 ∷ o.x.p0.x1 ∷ o.x.p0.x2 ∷ o.x.p0.x3 ∷ o.x.p1.x0 ∷ o.x.p1.x1 ∷ o.x.p1.x2 ∷ o.x.p1.x3 ∷ o.x.x0 ∷ o.x.x1 ∷ o.x.x2 ∷ [])
