@@ -8,7 +8,7 @@ pub mod keyed;
 use xoodyak::tag::Tag;
 
 // What a call hands back beside the session: 0 or the number of the refusal, with 3 how many bytes the output lacks, and the permutations spent.
-#[derive(Drop)]
+#[derive(Clone, Copy)]
 pub struct Reply {
     pub number: u8,
     pub missing: usize,
@@ -16,7 +16,7 @@ pub struct Reply {
 }
 
 // The same with the tag of what was sealed; a refusal has a tag of zeros.
-#[derive(Drop)]
+#[derive(Clone, Copy)]
 pub struct SealReply {
     pub number: u8,
     pub missing: usize,
@@ -25,7 +25,7 @@ pub struct SealReply {
 }
 
 // What a feed hands back, with the bytes taken.
-#[derive(Drop)]
+#[derive(Clone, Copy)]
 pub struct FeedReply {
     pub number: u8,
     pub missing: usize,
@@ -34,7 +34,7 @@ pub struct FeedReply {
 }
 
 // What a finish hands back; the tag is that of what was sealed, and zeros otherwise.
-#[derive(Drop)]
+#[derive(Clone, Copy)]
 pub struct FinishReply {
     pub number: u8,
     pub tag: Tag,

@@ -6,3 +6,4 @@ pub mod Lists
 pub mod Adding
 pub mod Blocks
 pub mod BlocksBack
+pub mod Clauses

@@ -6,14 +6,14 @@ use check::same;
 use xoodyak::{Answer, Session};
 
 // The calls from one buffer into another, and those in place, that answer a number and a buffer.
-#[derive(Drop)]
+#[derive(Clone, Copy)]
 pub enum CopyingCall {
     Encrypt,
     Decrypt,
     Open,
 }
 
-#[derive(Drop)]
+#[derive(Clone, Copy)]
 pub enum InPlaceCall {
     Encrypt,
     Decrypt,

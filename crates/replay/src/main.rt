@@ -22,7 +22,7 @@ use xoodyak::{Rule, Session};
 const LONGEST: usize = 40000;
 
 // What a runner holds, the rule of the sessions that it makes, how many bytes of the present line have come, and whether there may be more.
-#[derive(Drop)]
+#[derive(Clone, Copy)]
 pub struct State {
     pub held: Held,
     pub rule: Rule,

@@ -10,14 +10,14 @@ use xoodyak::tag::Tag;
 use xoodyak::{Answer, Rule, Session};
 
 // Calls whose lines have one shape; a session made new has its rule, a call walked back the phase before it.
-#[derive(Drop)]
+#[derive(Clone, Copy)]
 pub enum KeyCall {
     New(Rule),
     Key,
     Back(Phase),
 }
 
-#[derive(Drop)]
+#[derive(Clone, Copy)]
 pub enum TakingCall {
     Absorb,
     BackAbsorb(Phase),
@@ -25,13 +25,13 @@ pub enum TakingCall {
     BackSeal(Phase),
 }
 
-#[derive(Drop)]
+#[derive(Clone, Copy)]
 pub enum MoreCall {
     Absorb,
     Back(Phase),
 }
 
-#[derive(Drop)]
+#[derive(Clone, Copy)]
 pub enum SqueezeCall {
     Plain,
     Key,
@@ -39,7 +39,7 @@ pub enum SqueezeCall {
 }
 
 // The session, and the permutations of its last call.
-#[derive(Drop)]
+#[derive(Clone, Copy)]
 pub struct Held {
     pub session: Session,
     pub spent: usize,

@@ -8,39 +8,39 @@ use xoodyak::cyclist::{Mode, Phase};
 use xoodyak::feed::Kind;
 
 // What a word gave: whether it was well formed, and the number, or the count of bytes put at the front of a buffer.
-#[derive(Drop)]
+#[derive(Clone, Copy)]
 pub struct Got {
     pub ok: bool,
     pub n: usize,
 }
 
 // The same of a word for an optional argument, and whether one is there.
-#[derive(Drop)]
+#[derive(Clone, Copy)]
 pub struct Given {
     pub ok: bool,
     pub has: bool,
     pub n: usize,
 }
 
-#[derive(Drop)]
+#[derive(Clone, Copy)]
 pub enum PhaseWord {
     Is(Phase),
     Other,
 }
 
-#[derive(Drop)]
+#[derive(Clone, Copy)]
 pub enum ModeWord {
     Is(Mode),
     Other,
 }
 
-#[derive(Drop)]
+#[derive(Clone, Copy)]
 pub enum RuleWord {
     Is(Rule),
     Other,
 }
 
-#[derive(Drop)]
+#[derive(Clone, Copy)]
 pub enum KindWord {
     Is(Kind),
     Other,
@@ -254,7 +254,7 @@ pub fn kind(word: &[u8]) -> KindWord {
 }
 
 // The four words of a key call, at the front of four buffers.
-#[derive(Drop)]
+#[derive(Clone, Copy)]
 pub struct KeyWords {
     pub ok: bool,
     pub key: usize,

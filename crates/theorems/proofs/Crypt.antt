@@ -301,8 +301,8 @@ same_self [] = refl
 same_self (a ∷ x) = rw (eq-eqb a a refl) (same_self x)
 
 -- `same_bytes` tells whether two lists are equal
-pub same_bytes : (x y : List ℕ) → (same_bytes x y ≡ true) ↔ (x ≡ y)
-same_bytes x y = (same-equal x y, λ e. rw (← e) (same_self x))
+pub same-bytes : (x y : List ℕ) → (same_bytes x y ≡ true) ↔ (x ≡ y)
+same-bytes x y = (same-equal x y, λ e. rw (← e) (same_self x))
 
 -- a number that is 0 where P holds, and 4 where it does not
 abbrev pub Decides : ℕ → Type 0 → Type 0
@@ -313,10 +313,10 @@ tag-decides x y = go (same_bytes x y) refl
   where
     go : (b : Bool) → same_bytes x y ≡ b → Decides (tag_number b) (x ≡ y)
     go true e =
-        let q : x ≡ y = (same_bytes x y).0 e in
+        let q : x ≡ y = (same-bytes x y).0 e in
         (inl refl, (λ _. q, λ _. refl), (λ z. absurd (omega arith), λ n. absurd (n q)))
     go false e =
-        let q : x ≢ y = λ p. let z : ◌≡◌ {A = ℕ} 0 1 = cc ((same_bytes x y).1 p) in omega arith in
+        let q : x ≢ y = λ p. let z : ◌≡◌ {A = ℕ} 0 1 = cc ((same-bytes x y).1 p) in omega arith in
         (inr refl, (λ z. absurd (omega arith), λ p. absurd (q p)), (λ _. q, λ _. refl))
 
 pub verdict-number : (b : Bool) (s : Session) (good bad : List ℕ) (u : ℕ) → (verdict b s good bad u).number ≡ tag_number b

@@ -22,7 +22,7 @@ use Rattle.xoodyak.specs.Shares.{seal_share}
 use Rattle.xoodyak.specs.Numbers.{when, first, unfinished_number, mode_number, keyed_number, room_number, missing, tail_number}
 use Rattle.xoodyak.specs.Calls.{Outcome, no_tag, taken, settle, mode, squeeze_of, encrypt_end, encrypt_out, encrypt_ups, decrypt_end, decrypt_out, decrypt_ups, encrypt_of, decrypt_of, encrypt_in_place_of, decrypt_in_place_of, tag_end, tag_out, same_bytes, verdict, opened, seal_ups, open_ups, seal_detached_of, seal_of, seal_in_place_detached_of, seal_in_place_of, open_detached_of, open_of, open_in_place_detached_of, open_in_place_of}
 use Rattle.xoodyak.proofs.Costs.{open-share}
-use Rattle.theorems.proofs.Crypt.{all_but16, last16, first-zero, keyed-taken, same_bytes, Decides, opened-decides, tag-length, encrypt-length, decrypt-encrypt, decrypt-encrypt-end, decrypt-encrypt-ups, open-seal-ups}
+use Rattle.theorems.proofs.Crypt.{all_but16, last16, first-zero, keyed-taken, same-bytes, Decides, opened-decides, tag-length, encrypt-length, decrypt-encrypt, decrypt-encrypt-end, decrypt-encrypt-ups, open-seal-ups}
 
 -- ---- calls that meet no refusal
 module _ (k : ℕ) (s : Session) (o : List ℕ) (x : Outcome) where
@@ -59,7 +59,7 @@ opened-seal :
 unfolding opened
 opened-seal {s} {m} {c} {t} {e} good bad x =
     let q : decrypt_end s c ≡ encrypt_end s m = ap (decrypt_end s) x.cipher ∙ decrypt-encrypt-end s m in
-    ap₂ (λ b e. verdict b e good bad (open_ups s c)) ((same_bytes _ t).1 (ap tag_out q ∙ sym x.tag)) (ap tag_end q ∙ sym x.end)
+    ap₂ (λ b e. verdict b e good bad (open_ups s c)) ((same-bytes _ t).1 (ap tag_out q ∙ sym x.tag)) (ap tag_end q ∙ sym x.end)
     ∙ ap (taken e no_tag good) (ap (open_ups s) x.cipher ∙ open-seal-ups s m)
 
 -- where the sealing call spent v

@@ -25,7 +25,7 @@ use Rattle.xoodyak.specs.declared.feed.Kind.TheVariants.{Seal, Open}
 use Rattle.xoodyak.specs.Cyclist.{down_colour, down_bytes, up, down, message_blocks, enc_end, enc_out, dec_end, dec_out}
 use Rattle.xoodyak.specs.Feed.{is_open, close_block, open_block, put, wrote, run_end, run_out, Progress, stands, ups_before, place_in, block_for, and_then, within, feed, end_block, end_ups}
 use Rattle.xoodyak.proofs.BlockWords.{down-zero}
-use Rattle.xoodyak.proofs.Runs.{text, text-length, run_out, run_end}
+use Rattle.xoodyak.proofs.Runs.{text, text-length, run-out, run-end}
 use Rattle.walkback.specs.Steps.{Step, ups, block_steps, next_steps, squeeze_more_steps, squeeze_steps}
 use Rattle.walkback.specs.Walk.{seals, steps}
 use Rattle.theorems.proofs.Crypt.{both_true, up-mode, up-length, add-zero-at, by_blocks, some_cuts}
@@ -100,8 +100,8 @@ full-as :
 unfolding full
 full-as kind p d b x t e = ap (λ t. fed t p d b (full kind (suc (place_in t p)) (after kind t p d b) x)) e
 
-is_open : (p : ℕ) → 0 < p → p < 24 → is_open p ≡ true
-is_open p h g = rw (lt-ltb 0 p h, lt-ltb p 24 g)
+is-open : (p : ℕ) → 0 < p → p < 24 → is_open p ≡ true
+is-open p h g = rw (lt-ltb 0 p h, lt-ltb p 24 g)
 
 -- a run that stays inside the block
 abbrev ran : Kind → ℕ → Duplex → List ℕ → Progress
@@ -115,7 +115,7 @@ run_is kind [] p d h g =
 run_is kind (b ∷ x) p d h g =
     let q : suc p + length x ≡ p + suc (length x) = omega arith in
     let e = put kind p b d in
-    full-as kind p d b x true (is_open p h (omega arith))
+    full-as kind p d b x true (is-open p h (omega arith))
     ∙ ap (and_then 0 (wrote p b d)) (run_is kind x (suc p) e (omega arith) (omega arith))
     ∙ (λ i. record { duplex = run_end kind (suc p) e x; place = q i; spent = 0; bytes = wrote p b d ∷ run_out kind (suc p) e x })
 
@@ -136,8 +136,8 @@ block-is kind [] p d s h g l = absurd (not-suc-le-zero h)
 block-is kind (b ∷ x) p d s h g l =
     let e = open_block p d in
     let q : 1 + length x ≡ suc (length x) = omega arith in
-    let ee = run_end e.mode e.phase kind (b ∷ x) [] e.st 0 refl (omega arith) in
-    let eo = run_out e.mode e.phase kind (b ∷ x) [] e.st 0 refl (omega arith) in
+    let ee = run-end e.mode e.phase kind (b ∷ x) [] e.st 0 refl (omega arith) in
+    let eo = run-out e.mode e.phase kind (b ∷ x) [] e.st 0 refl (omega arith) in
     full-as kind p d b x false s
     ∙ ap (and_then 1 (wrote 0 b e)) (run_is kind x 1 (put kind 0 b e) (lit< tt) (omega arith))
     ∙ (λ i. record { duplex = ee i; place = q i; spent = 1; bytes = eo i })

@@ -14,13 +14,13 @@ use xoodyak::Rule;
 use xoodyak::cyclist::{Mode, Phase};
 
 // The 48 bytes before the call and 0, or the 48 bytes given and the number that the call itself would refuse with.
-#[derive(Drop)]
+#[derive(Clone, Copy)]
 pub struct Before {
     pub st: [u8; 48],
     pub number: u8,
 }
 
-#[derive(Drop)]
+#[derive(Clone, Copy)]
 pub enum Kind {
     Absorb,
     AbsorbMore,

@@ -15,13 +15,13 @@ use crate::unround::unrounds;
 use crate::words::{from_words, inverse_bytes, load, permute_bytes};
 
 // The 48 bytes.
-#[derive(Drop)]
+#[derive(Clone, Copy)]
 pub struct Xoodoo {
     pub st: [u8; 48],
 }
 
 // A state, and 0, or 6 or 11 where the call was refused and the state is the one that was given.
-#[derive(Drop)]
+#[derive(Clone, Copy)]
 pub struct Answer {
     pub state: Xoodoo,
     pub number: u8,

@@ -11,7 +11,7 @@ use crate::round::{Plane, State, xor4};
 use crate::unround::twelve_unrounds;
 
 // The words of a block of 24 bytes; a plane has those of 16.
-#[derive(Drop)]
+#[derive(Clone, Copy)]
 pub struct Six {
     pub x0: u32,
     pub x1: u32,
@@ -22,7 +22,7 @@ pub struct Six {
 }
 
 // The words of a block of 44 bytes.
-#[derive(Drop)]
+#[derive(Clone, Copy)]
 pub struct Eleven {
     pub p0: Plane,
     pub p1: Plane,

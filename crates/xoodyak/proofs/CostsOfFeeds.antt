@@ -100,7 +100,7 @@ feed-byte a p d m b f false l k = none_allowed a p d (suc m) (is_open p) refl l
 pub feed-follows : (kind : Kind) (a p : ℕ) (d : Duplex) (x : List ℕ) → Follows a p (length x) (feed kind a p d x)
 unfolding feed
 feed-follows kind a p d [] = none_left a p d
-feed-follows kind a p d (b ∷ x) = feed-byte a p d (length x) _ _ (leb (ups_before (is_open p)) a) refl (feed-follows kind _ _ _ x)
+feed-follows kind a p d (b ∷ x) = feed-byte a p d (length x) _ _ (leb (ups_before (is_open p)) a) refl (feed-follows kind (a - ups_before (is_open p)) _ _ x)
 
 -- ---- a finish: the Up steps of the message's end and of the tag
 end-share : (rule : Rule) (place : ℕ) → end_ups rule place + 1 ≡ finish_share rule place

@@ -54,29 +54,29 @@ module _ (m : Mode) (ph : Phase) where
       let v : get_or s p 0 ⊕ plain_of kind b (get_or s p 0) ≡ a ⊕ plain_of kind b a = ap (λ c. c ⊕ plain_of kind b c) (get_or_at pre a rest 0 p e) in
       ap (held ph m) (ap (set s p) v ∙ set_at pre a rest (a ⊕ plain_of kind b a) p e ∙ sym (append_assoc pre ((a ⊕ plain_of kind b a) ∷ []) rest))
 
-  pub run_out :
+  pub run-out :
       (kind : Kind) (x pre rest : List ℕ) (p : ℕ) → length pre ≡ p → length x ≤ length rest
       → run_out kind p (held ph m (pre ++ rest)) x ≡ add_front x rest
   unfolding run_out
-  run_out kind [] pre rest p e h = refl
-  run_out kind (b ∷ x) pre [] p e h = absurd (not-suc-le-zero h)
-  run_out kind (b ∷ x) pre (a ∷ rest) p e h =
+  run-out kind [] pre rest p e h = refl
+  run-out kind (b ∷ x) pre [] p e h = absurd (not-suc-le-zero h)
+  run-out kind (b ∷ x) pre (a ∷ rest) p e h =
       let v = a ⊕ plain_of kind b a in
       let l : length (pre ++ (v ∷ [])) ≡ suc p = length-append pre (v ∷ []) ∙ omega arith in
       ap₂ ◌∷◌ (ap (λ c. b ⊕ c) (get_or_at pre a rest 0 p e))
-      (ap (λ d. run_out kind (suc p) d x) (put-at kind pre a rest p b e) ∙ run_out kind x (pre ++ (v ∷ [])) rest (suc p) l (le_of_suc-le-suc h))
+      (ap (λ d. run_out kind (suc p) d x) (put-at kind pre a rest p b e) ∙ run-out kind x (pre ++ (v ∷ [])) rest (suc p) l (le_of_suc-le-suc h))
 
-  pub run_end :
+  pub run-end :
       (kind : Kind) (x pre rest : List ℕ) (p : ℕ) → length pre ≡ p → length x ≤ length rest
       → run_end kind p (held ph m (pre ++ rest)) x ≡ held ph m (pre ++ add_front rest (text kind x rest))
   unfolding run_end
-  run_end kind [] pre rest p e h = ap (λ l. held ph m (pre ++ l)) (sym (text-nil kind rest))
-  run_end kind (b ∷ x) pre [] p e h = absurd (not-suc-le-zero h)
-  run_end kind (b ∷ x) pre (a ∷ rest) p e h =
+  run-end kind [] pre rest p e h = ap (λ l. held ph m (pre ++ l)) (sym (text-nil kind rest))
+  run-end kind (b ∷ x) pre [] p e h = absurd (not-suc-le-zero h)
+  run-end kind (b ∷ x) pre (a ∷ rest) p e h =
       let v = a ⊕ plain_of kind b a in
       let l : length (pre ++ (v ∷ [])) ≡ suc p = length-append pre (v ∷ []) ∙ omega arith in
       ap (λ d. run_end kind (suc p) d x) (put-at kind pre a rest p b e)
-      ∙ run_end kind x (pre ++ (v ∷ [])) rest (suc p) l (le_of_suc-le-suc h)
+      ∙ run-end kind x (pre ++ (v ∷ [])) rest (suc p) l (le_of_suc-le-suc h)
       ∙ ap (held ph m) (append_assoc pre (v ∷ []) (add_front rest (text kind x rest)) ∙ ap (λ r. pre ++ r) (sym (text-cons kind b a x rest)))
 
 -- what is added to the front of a list is added to its first k bytes, where it has no more
@@ -105,7 +105,7 @@ module _ (kind : Kind) (p e : ℕ) (d : Duplex) (x : List ℕ) (l : e ≡ p + le
   text-part Open = met
 
   pub part_out : {y : List ℕ} → y ≡ add_front x (take (e - p) (drop p d.st)) → y ≡ run_out kind p d x
-  part_out ey = ey ∙ met ∙ sym (ap (λ t. run_out kind p t x) split ∙ run_out d.mode d.phase kind x (take p d.st) (drop p d.st) p before long)
+  part_out ey = ey ∙ met ∙ sym (ap (λ t. run_out kind p t x) split ∙ run-out d.mode d.phase kind x (take p d.st) (drop p d.st) p before long)
 
   pub part_end : {z v : List ℕ} → v ≡ text kind x (take (e - p) (drop p d.st)) → z ≡ add_front (take (e - p) (drop p d.st)) v
       → held d.phase d.mode (put_mid p (e - p) d.st z) ≡ run_end kind p d x
@@ -114,7 +114,7 @@ module _ (kind : Kind) (p e : ℕ) (d : Duplex) (x : List ℕ) (l : e ≡ p + le
       let n : length v ≤ e - p = rw (ev, text-length kind x (take (e - p) (drop p s))) (omega arith) in
       ap (λ (r : List ℕ). held d.phase d.mode (take p s ++ r))
       (ap (λ (r : List ℕ). r ++ drop (e - p) (drop p s)) ez ∙ front-part (e - p) (drop p s) v n ∙ ap (add_front (drop p s)) (ev ∙ text-part kind))
-      ∙ sym (ap (λ t. run_end kind p t x) split ∙ run_end d.mode d.phase kind x (take p s) (drop p s) p before long)
+      ∙ sym (ap (λ t. run_end kind p t x) split ∙ run-end d.mode d.phase kind x (take p s) (drop p s) p before long)
 
 -- ---- a block's Up, where the one before is full or there is none
 opened : (p : ℕ) (d : Duplex) → open_block p d ≡ held Up d.mode (open_block p d).st
@@ -140,7 +140,7 @@ module _ (kind : Kind) (p : ℕ) (d : Duplex) (x s : List ℕ) (e : s ≡ (open_
   begun = opened p d ∙ ap (held Up d.mode) (sym e)
 
   pub whole-end : {r : List ℕ} → r ≡ add_front s (text kind x s) → held Up d.mode r ≡ run_end kind 0 (open_block p d) x
-  whole-end er = ap (held Up d.mode) er ∙ sym (run_end d.mode Up kind x [] s 0 refl l) ∙ ap (λ t. run_end kind 0 t x) (sym begun)
+  whole-end er = ap (held Up d.mode) er ∙ sym (run-end d.mode Up kind x [] s 0 refl l) ∙ ap (λ t. run_end kind 0 t x) (sym begun)
 
   pub whole_out : {y : List ℕ} → y ≡ add_front x s → y ≡ run_out kind 0 (open_block p d) x
-  whole_out ey = ey ∙ sym (run_out d.mode Up kind x [] s 0 refl l) ∙ ap (λ t. run_out kind 0 t x) (sym begun)
+  whole_out ey = ey ∙ sym (run-out d.mode Up kind x [] s 0 refl l) ∙ ap (λ t. run_out kind 0 t x) (sym begun)

@@ -23,7 +23,7 @@ pub enum Phase {
     Down,
 }
 
-#[derive(Drop)]
+#[derive(Clone, Copy)]
 pub struct Duplex {
     pub st: [u8; 48],
     pub mode: Mode,

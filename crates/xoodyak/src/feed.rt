@@ -31,7 +31,7 @@ pub struct Message {
 
 // What a feed hands back: the session, 0 or the number of the refusal, with 3 how many bytes the output lacks, the bytes taken
 // and the permutations spent.
-#[derive(Drop)]
+#[derive(Clone, Copy)]
 pub struct Fed {
     pub session: Session,
     pub number: u8,
@@ -41,7 +41,7 @@ pub struct Fed {
 }
 
 // What a finish hands back; the tag is that of what was sealed, and zeros otherwise.
-#[derive(Drop)]
+#[derive(Clone, Copy)]
 pub struct Finished {
     pub session: Session,
     pub number: u8,
@@ -50,7 +50,7 @@ pub struct Finished {
 }
 
 // Where a feed stands.
-#[derive(Drop)]
+#[derive(Clone, Copy)]
 struct Progress {
     duplex: Duplex,
     place: usize,

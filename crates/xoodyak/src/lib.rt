@@ -26,7 +26,7 @@ pub enum Rule {
     Specification,
 }
 
-#[derive(Drop)]
+#[derive(Clone, Copy)]
 pub struct Session {
     pub duplex: Duplex,
     pub rule: Rule,
@@ -34,7 +34,7 @@ pub struct Session {
 }
 
 // What a call hands back: the session, 0 or the number of the refusal, with 3 how many bytes the output lacks, and the permutations spent.
-#[derive(Drop)]
+#[derive(Clone, Copy)]
 pub struct Answer {
     pub session: Session,
     pub number: u8,
@@ -43,7 +43,7 @@ pub struct Answer {
 }
 
 // The same with the tag of what was sealed; a refusal has a tag of zeros.
-#[derive(Drop)]
+#[derive(Clone, Copy)]
 pub struct Sealed {
     pub session: Session,
     pub number: u8,

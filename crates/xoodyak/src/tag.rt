@@ -4,7 +4,7 @@ ghost use Rattle.xoodyak.specs.Calls.{verify_of, no_tag};
 
 use crate::bytes::same_bytes;
 
-#[derive(Drop)]
+#[derive(Clone, Copy)]
 pub struct Tag {
     pub bytes: [u8; 16],
 }

@@ -1,0 +1,6 @@
+-- A fresh state in Hash mode, with no message begun.
+use borrow.Author.Rules.{rules}
+use Rattle.xoodyak.proofs.Session.hash.Goals as goal
+
+pub returns : goal.returns
+returns c = rw (c.idle.ensures, c.fresh.ensures)

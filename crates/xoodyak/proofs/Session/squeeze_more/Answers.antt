@@ -1,0 +1,23 @@
+-- As squeeze, without the first Up.
+use lib.ListN.{length}
+use Rattle.xoodyak.specs.Calls.{answer_of, squeeze_more_of}
+use Rattle.xoodyak.proofs.Settle.{call-taken, call-refused}
+use Rattle.xoodyak.proofs.Turns.{rate-pos}
+use Rattle.xoodyak.proofs.Costs.{squeeze-more-share}
+use borrow.Author.Rules.{rules}
+use Rattle.laws.proofs.Clauses.{as_value_and_out_after}
+use Rattle.xoodyak.proofs.Session.squeeze_more.Goals as goal
+
+pub returns-then-number-ne0 : goal.returns-then-number-ne0
+unfolding squeeze_more_of
+returns-then-number-ne0 c = as_value_and_out_after (call-refused _ _ c.unfinished_number-number.ensures _ _ _ _ answer_of _ c.if-number-ne0.true c.answer.ensures)
+
+pub block_count-requires : goal.block_count-requires
+block_count-requires c = rw c.squeeze_rate.ensures (rate-pos c.args.self.duplex.mode)
+
+pub returns : goal.returns
+unfolding squeeze_more_of
+returns c = as_value_and_out_after (let f = c.squeeze_more in
+    let a = c.args in
+    call-taken _ _ c.unfinished_number-number.ensures _ _ _ _ answer_of _ _ c.if-number-ne0.false
+    (rw (c.paid.ensures, c.block_count.ensures, c.squeeze_rate.ensures, c.onward.ensures, f.ensures.value, squeeze-more-share a.self.duplex (length a.out.now), f.auto.out)) f.ensures.out_after)

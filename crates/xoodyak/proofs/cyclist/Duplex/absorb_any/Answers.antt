@@ -1,0 +1,26 @@
+-- The first block has the colour; the rest is absorb_more, since the phase is Down after a block.
+use lib.Seq.{take_all}
+use mathlib.Core.Path.{sym, ◌∙◌}
+use Prim.Native.Nat.{◌-◌, ◌≤◌}
+use native.Mathlib.Omega.{arith}
+use lib.ListN.{length, drop, length-drop, length-take}
+use lib.Seq.{length-take-le}
+use Rattle.xoodyak.proofs.Turns.{absorb-is}
+use Rattle.xoodyak.specs.Cyclist.{absorb_more}
+use borrow.Author.Rules.{rules}
+use Rattle.xoodyak.proofs.cyclist.Duplex.absorb_any.Goals as goal
+
+pub slice_bounds-down-end : goal.slice_bounds-down-end
+slice_bounds-down-end c = sym (length-take-le _ _ (omega arith))
+
+pub down-d-requires : goal.down-d-requires
+down-d-requires c = simp length-take (omega arith)
+
+pub returns : goal.returns
+unfolding absorb_more
+returns c = let a = c.args in
+    let k = c.least-k.result in
+    let g : length (drop k a.bin.now) ≤ length a.bin.now - k = rw length-drop (omega arith) in
+    c.absorb_more.ensures
+    ∙ rw (take_all (length a.bin.now - k) (drop k a.bin.now) g, c.down-d.ensures, c.ready.ensures)
+    (absorb-is a.rate k a.cd a.self a.bin.now (omega arith) (omega arith))

@@ -1,0 +1,31 @@
+-- What is spent and written, then what the rest gives from where it stands, is what the whole gives from the start.
+use mathlib.Core.Path.{◌≡◌, refl, sym, ◌∙◌}
+use mathlib.Core.Bool.{true}
+use mathlib.Core.List.{List}
+use Prim.Native.Nat.{ℕ, ◌+◌, ◌-◌, ◌<◌, ◌≤◌, min}
+use native.Mathlib.Nat.{sub-zero}
+use native.Mathlib.Omega.{arith}
+use lib.Dec.{leb, ltb}
+use lib.ListN.{length, take, drop, length-drop}
+use borrow.Author.Rules.{rules}
+use borrow.Author.Tests.{leb-true}
+use borrow.Rule.Slice.PartMut.{same_len_mid}
+use Rattle.laws.proofs.Lists.{length-mid}
+use Rattle.xoodyak.specs.Calls.{both}
+use Rattle.xoodyak.specs.Feed.{is_open, ups_before, place_in, feed}
+use Rattle.xoodyak.proofs.Feeding.{past, past-none, place-within, going-left, going-allowed, feed-turned, feed-stops, feed-done}
+use Rattle.xoodyak.proofs.cyclist.Duplex.feed.Given as goal
+
+abbrev pub invariant-loop-going : goal.invariant-loop-going
+invariant-loop-going l =
+    (l.i ≤ length l.piece)
+    × (length l.out ≡ length l.initial.out)
+    × (l.spent ≤ l.allowance)
+    × (l.p < 256)
+    × (l.fits ≡ is_open l.p)
+    × (l.going ≡ both (ltb 0 (length l.piece - l.i)) (leb (ups_before l.fits) (l.allowance - l.spent)))
+    × (drop l.i l.out ≡ drop l.i l.initial.out)
+    × (past l.spent (take l.i l.out) (feed l.kind (l.allowance - l.spent) l.p l.d (drop l.i l.piece)) ≡ feed l.kind l.allowance l.place l.initial.d l.piece)
+
+abbrev pub decreases-loop-going : goal.decreases-loop-going
+decreases-loop-going l = length l.piece - l.i
