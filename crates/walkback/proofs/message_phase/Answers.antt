@@ -1,0 +1,6 @@
+-- Both rules, as the definition goes by them.
+use borrow.Author.Rules.{rules}
+use Rattle.walkback.proofs.message_phase.Goals as goal
+
+pub returns-in-Crate : goal.returns-in-Crate
+returns-in-Crate c = rw (c.unless_empty.ensures, c.in-Crate.is)

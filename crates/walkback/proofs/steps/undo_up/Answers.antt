@@ -1,0 +1,13 @@
+-- In Hash the inverse permutation alone, in Keyed the colour at byte 47 besides.
+use Rattle.laws.specs.Words.{◌⊕◌}
+use Rattle.walkback.specs.Steps.{undoes}
+use borrow.Author.Rules.{rules}
+use Rattle.walkback.proofs.steps.undo_up.Goals as goal
+
+pub returns-in-Hash : goal.returns-in-Hash
+unfolding undoes
+returns-in-Hash c = rw (c.inverse_bytes.ensures, c.in-Hash.is)
+
+pub returns-in-Keyed : goal.returns-in-Keyed
+unfolding undoes ◌⊕◌
+returns-in-Keyed c = rw (c.inverse_bytes.ensures, c.in-Keyed.is)
