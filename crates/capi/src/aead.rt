@@ -7,8 +7,7 @@ ghost use Rattle.capi.specs.Capi.{flag_of, sound, sound_with, exported, whole};
 use crate::session::{flag_of, keep, put, session_of, sound, sound_with};
 use xoodyak::tag::Tag;
 
-#[unsafe(no_mangle)]
-pub extern "C" fn lafomeihu_aead_encrypt_detached(
+pub fn lafomeihu_aead_encrypt_detached(
     st: &mut [u8; 48],
     head: &mut [u8; 6],
     out: &mut [u8],
@@ -35,8 +34,7 @@ pub extern "C" fn lafomeihu_aead_encrypt_detached(
     40
 }
 
-#[unsafe(no_mangle)]
-pub extern "C" fn lafomeihu_aead_encrypt(
+pub fn lafomeihu_aead_encrypt(
     st: &mut [u8; 48],
     head: &mut [u8; 6],
     out: &mut [u8],
@@ -56,8 +54,7 @@ pub extern "C" fn lafomeihu_aead_encrypt(
     40
 }
 
-#[unsafe(no_mangle)]
-pub extern "C" fn lafomeihu_aead_decrypt_detached(
+pub fn lafomeihu_aead_decrypt_detached(
     st: &mut [u8; 48],
     head: &mut [u8; 6],
     out: &mut [u8],
@@ -79,8 +76,7 @@ pub extern "C" fn lafomeihu_aead_decrypt_detached(
     40
 }
 
-#[unsafe(no_mangle)]
-pub extern "C" fn lafomeihu_aead_decrypt(
+pub fn lafomeihu_aead_decrypt(
     st: &mut [u8; 48],
     head: &mut [u8; 6],
     out: &mut [u8],
@@ -98,8 +94,7 @@ pub extern "C" fn lafomeihu_aead_decrypt(
     40
 }
 
-#[unsafe(no_mangle)]
-pub extern "C" fn lafomeihu_aead_encrypt_in_place_detached(
+pub fn lafomeihu_aead_encrypt_in_place_detached(
     st: &mut [u8; 48],
     head: &mut [u8; 6],
     in_out: &mut [u8],
@@ -123,8 +118,7 @@ pub extern "C" fn lafomeihu_aead_encrypt_in_place_detached(
     40
 }
 
-#[unsafe(no_mangle)]
-pub extern "C" fn lafomeihu_aead_encrypt_in_place(
+pub fn lafomeihu_aead_encrypt_in_place(
     st: &mut [u8; 48],
     head: &mut [u8; 6],
     in_out: &mut [u8],
@@ -141,8 +135,7 @@ pub extern "C" fn lafomeihu_aead_encrypt_in_place(
     40
 }
 
-#[unsafe(no_mangle)]
-pub extern "C" fn lafomeihu_aead_decrypt_in_place_detached(
+pub fn lafomeihu_aead_decrypt_in_place_detached(
     st: &mut [u8; 48],
     head: &mut [u8; 6],
     in_out: &mut [u8],
@@ -161,8 +154,7 @@ pub extern "C" fn lafomeihu_aead_decrypt_in_place_detached(
     40
 }
 
-#[unsafe(no_mangle)]
-pub extern "C" fn lafomeihu_aead_decrypt_in_place(
+pub fn lafomeihu_aead_decrypt_in_place(
     st: &mut [u8; 48],
     head: &mut [u8; 6],
     in_out: &mut [u8],
@@ -179,9 +171,8 @@ pub extern "C" fn lafomeihu_aead_decrypt_in_place(
     40
 }
 
-#[unsafe(no_mangle)]
-pub extern "C" fn lafomeihu_verify(tag: &[u8; 16], bytes: &[u8; 16]) -> u8
-    ensures { result ≡ verify_of (record { bytes = tag.now }) bytes.entry.now }
+pub fn lafomeihu_verify(tag: &[u8; 16], bytes: &[u8; 16]) -> u8
+    ensures { result ≡ verify_of (record { bytes = tag.now }) bytes.now }
 {
     Tag::from_bytes(*tag).verify(*bytes)
 }

@@ -28,8 +28,7 @@ fn put_back(st: &mut [u8; 48], head: &mut [u8; 6], phase: u8, a: Before)
     *head = g;
 }
 
-#[unsafe(no_mangle)]
-pub extern "C" fn lafomeihu_back_absorb(
+pub fn lafomeihu_back_absorb(
     st: &mut [u8; 48],
     head: &mut [u8; 6],
     phase: u8,
@@ -50,8 +49,7 @@ pub extern "C" fn lafomeihu_back_absorb(
     40
 }
 
-#[unsafe(no_mangle)]
-pub extern "C" fn lafomeihu_back_absorb_more(
+pub fn lafomeihu_back_absorb_more(
     st: &mut [u8; 48],
     head: &mut [u8; 6],
     phase: u8,
@@ -73,8 +71,7 @@ pub extern "C" fn lafomeihu_back_absorb_more(
     40
 }
 
-#[unsafe(no_mangle)]
-pub extern "C" fn lafomeihu_back_squeeze(
+pub fn lafomeihu_back_squeeze(
     st: &mut [u8; 48],
     head: &mut [u8; 6],
     phase: u8,
@@ -95,8 +92,7 @@ pub extern "C" fn lafomeihu_back_squeeze(
     40
 }
 
-#[unsafe(no_mangle)]
-pub extern "C" fn lafomeihu_back_squeeze_key(
+pub fn lafomeihu_back_squeeze_key(
     st: &mut [u8; 48],
     head: &mut [u8; 6],
     phase: u8,
@@ -117,8 +113,7 @@ pub extern "C" fn lafomeihu_back_squeeze_key(
     40
 }
 
-#[unsafe(no_mangle)]
-pub extern "C" fn lafomeihu_back_squeeze_more(
+pub fn lafomeihu_back_squeeze_more(
     st: &mut [u8; 48],
     head: &mut [u8; 6],
     phase: u8,
@@ -139,8 +134,7 @@ pub extern "C" fn lafomeihu_back_squeeze_more(
     40
 }
 
-#[unsafe(no_mangle)]
-pub extern "C" fn lafomeihu_back_key<'a>(
+pub fn lafomeihu_back_key<'a>(
     st: &mut [u8; 48],
     head: &mut [u8; 6],
     phase: u8,
@@ -170,8 +164,7 @@ pub extern "C" fn lafomeihu_back_key<'a>(
     40
 }
 
-#[unsafe(no_mangle)]
-pub extern "C" fn lafomeihu_back_encrypt(
+pub fn lafomeihu_back_encrypt(
     st: &mut [u8; 48],
     head: &mut [u8; 6],
     phase: u8,
@@ -192,8 +185,7 @@ pub extern "C" fn lafomeihu_back_encrypt(
     40
 }
 
-#[unsafe(no_mangle)]
-pub extern "C" fn lafomeihu_back_seal(
+pub fn lafomeihu_back_seal(
     st: &mut [u8; 48],
     head: &mut [u8; 6],
     phase: u8,

@@ -6,8 +6,7 @@ ghost use Rattle.capi.specs.Capi.{kind_of, sound, sound_with, exported, whole};
 use crate::session::{kind_of, put, session_of, sound, sound_with};
 use xoodyak::tag::Tag;
 
-#[unsafe(no_mangle)]
-pub extern "C" fn lafomeihu_begin(st: &mut [u8; 48], head: &mut [u8; 6], kind: u8) -> u8
+pub fn lafomeihu_begin(st: &mut [u8; 48], head: &mut [u8; 6], kind: u8) -> u8
     ensures { let x = exported (sound_with head.old kind) st.old head.old [] [] [] (λ s. whole (begin_of (kind_of kind) s)) in (result ≡ x.number) × ((st.new ≡ x.st) × (head.new ≡ x.head)) }
 {
     let b = *st;
@@ -22,8 +21,7 @@ pub extern "C" fn lafomeihu_begin(st: &mut [u8; 48], head: &mut [u8; 6], kind: u
     40
 }
 
-#[unsafe(no_mangle)]
-pub extern "C" fn lafomeihu_feed(
+pub fn lafomeihu_feed(
     st: &mut [u8; 48],
     head: &mut [u8; 6],
     kind: u8,
@@ -47,8 +45,7 @@ pub extern "C" fn lafomeihu_feed(
     40
 }
 
-#[unsafe(no_mangle)]
-pub extern "C" fn lafomeihu_finish_seal(
+pub fn lafomeihu_finish_seal(
     st: &mut [u8; 48],
     head: &mut [u8; 6],
     tag: &mut [u8; 16],
@@ -71,8 +68,7 @@ pub extern "C" fn lafomeihu_finish_seal(
     40
 }
 
-#[unsafe(no_mangle)]
-pub extern "C" fn lafomeihu_finish_open(
+pub fn lafomeihu_finish_open(
     st: &mut [u8; 48],
     head: &mut [u8; 6],
     tag: &[u8; 16],

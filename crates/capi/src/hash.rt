@@ -7,8 +7,7 @@ ghost use Rattle.capi.specs.Capi.{rule_of, sound, exported, whole};
 use crate::session::{keep, put, rule_of, session_of, sound};
 use xoodyak::Session;
 
-#[unsafe(no_mangle)]
-pub extern "C" fn lafomeihu_hash(st: &mut [u8; 48], head: &mut [u8; 6], rule: u8) -> u8
+pub fn lafomeihu_hash(st: &mut [u8; 48], head: &mut [u8; 6], rule: u8) -> u8
     ensures { let x = exported (ltb rule 2) st.old head.old [] [] [] (λ _. whole (taken (session (rule_of rule) Hash) no_tag [] 0)) in (result ≡ x.number) × ((st.new ≡ x.st) × (head.new ≡ x.head)) }
 {
     if rule < 2 {
@@ -20,8 +19,7 @@ pub extern "C" fn lafomeihu_hash(st: &mut [u8; 48], head: &mut [u8; 6], rule: u8
     40
 }
 
-#[unsafe(no_mangle)]
-pub extern "C" fn lafomeihu_absorb(
+pub fn lafomeihu_absorb(
     st: &mut [u8; 48],
     head: &mut [u8; 6],
     bin: &[u8],
@@ -38,8 +36,7 @@ pub extern "C" fn lafomeihu_absorb(
     40
 }
 
-#[unsafe(no_mangle)]
-pub extern "C" fn lafomeihu_absorb_more(
+pub fn lafomeihu_absorb_more(
     st: &mut [u8; 48],
     head: &mut [u8; 6],
     bin: &[u8],
@@ -57,8 +54,7 @@ pub extern "C" fn lafomeihu_absorb_more(
     40
 }
 
-#[unsafe(no_mangle)]
-pub extern "C" fn lafomeihu_squeeze(
+pub fn lafomeihu_squeeze(
     st: &mut [u8; 48],
     head: &mut [u8; 6],
     out: &mut [u8],
@@ -75,8 +71,7 @@ pub extern "C" fn lafomeihu_squeeze(
     40
 }
 
-#[unsafe(no_mangle)]
-pub extern "C" fn lafomeihu_squeeze_key(
+pub fn lafomeihu_squeeze_key(
     st: &mut [u8; 48],
     head: &mut [u8; 6],
     out: &mut [u8],
@@ -93,8 +88,7 @@ pub extern "C" fn lafomeihu_squeeze_key(
     40
 }
 
-#[unsafe(no_mangle)]
-pub extern "C" fn lafomeihu_squeeze_more(
+pub fn lafomeihu_squeeze_more(
     st: &mut [u8; 48],
     head: &mut [u8; 6],
     out: &mut [u8],

@@ -6,8 +6,7 @@ ghost use Rattle.capi.specs.Capi.{rule_of, flag_of, sound, with_flags, exported,
 use crate::session::{flag_of, keep, rule_of, session_of, sound, with_flags};
 use xoodyak::Session;
 
-#[unsafe(no_mangle)]
-pub extern "C" fn lafomeihu_new<'a>(
+pub fn lafomeihu_new<'a>(
     st: &mut [u8; 48],
     head: &mut [u8; 6],
     rule: u8,
@@ -33,8 +32,7 @@ pub extern "C" fn lafomeihu_new<'a>(
     40
 }
 
-#[unsafe(no_mangle)]
-pub extern "C" fn lafomeihu_absorb_key_and_nonce<'a>(
+pub fn lafomeihu_absorb_key_and_nonce<'a>(
     st: &mut [u8; 48],
     head: &mut [u8; 6],
     key: &[u8],
@@ -60,8 +58,7 @@ pub extern "C" fn lafomeihu_absorb_key_and_nonce<'a>(
     40
 }
 
-#[unsafe(no_mangle)]
-pub extern "C" fn lafomeihu_ratchet(
+pub fn lafomeihu_ratchet(
     st: &mut [u8; 48],
     head: &mut [u8; 6],
     counts: &mut [usize; 3],
@@ -77,8 +74,7 @@ pub extern "C" fn lafomeihu_ratchet(
     40
 }
 
-#[unsafe(no_mangle)]
-pub extern "C" fn lafomeihu_encrypt(
+pub fn lafomeihu_encrypt(
     st: &mut [u8; 48],
     head: &mut [u8; 6],
     out: &mut [u8],
@@ -96,8 +92,7 @@ pub extern "C" fn lafomeihu_encrypt(
     40
 }
 
-#[unsafe(no_mangle)]
-pub extern "C" fn lafomeihu_decrypt(
+pub fn lafomeihu_decrypt(
     st: &mut [u8; 48],
     head: &mut [u8; 6],
     out: &mut [u8],
@@ -115,8 +110,7 @@ pub extern "C" fn lafomeihu_decrypt(
     40
 }
 
-#[unsafe(no_mangle)]
-pub extern "C" fn lafomeihu_encrypt_in_place(
+pub fn lafomeihu_encrypt_in_place(
     st: &mut [u8; 48],
     head: &mut [u8; 6],
     in_out: &mut [u8],
@@ -133,8 +127,7 @@ pub extern "C" fn lafomeihu_encrypt_in_place(
     40
 }
 
-#[unsafe(no_mangle)]
-pub extern "C" fn lafomeihu_decrypt_in_place(
+pub fn lafomeihu_decrypt_in_place(
     st: &mut [u8; 48],
     head: &mut [u8; 6],
     in_out: &mut [u8],

@@ -14,23 +14,20 @@ ghost use Rattle.xoodoo.specs.Calls.{add_byte_of, add_bytes_of, extract_bytes_of
 use xoodoo::Xoodoo;
 use xoodoo::words::{inverse_bytes, permute_bytes};
 
-#[unsafe(no_mangle)]
-pub extern "C" fn lafomeihu_xoodoo_permute(st: &mut [u8; 48])
+pub fn lafomeihu_xoodoo_permute(st: &mut [u8; 48])
     ensures { st.new ≡ x.xoodoo st.old }
 {
     permute_bytes(st);
 }
 
-#[unsafe(no_mangle)]
-pub extern "C" fn lafomeihu_xoodoo_inverse(st: &mut [u8; 48])
+pub fn lafomeihu_xoodoo_inverse(st: &mut [u8; 48])
     ensures { st.new ≡ x.inverse st.old }
 {
     inverse_bytes(st);
 }
 
-#[unsafe(no_mangle)]
-pub extern "C" fn lafomeihu_xoodoo_rounds(st: &mut [u8; 48], n: usize) -> u8
-    ensures { let x = rounds_of (record { st = st.entry.now }) n in (result ≡ x.number) × (st.exit.now ≡ x.state.st) }
+pub fn lafomeihu_xoodoo_rounds(st: &mut [u8; 48], n: usize) -> u8
+    ensures { let x = rounds_of (record { st = st.old }) n in (result ≡ x.number) × (st.new ≡ x.state.st) }
 {
     let b = *st;
     let a = Xoodoo::from_bytes(b).rounds(n);
@@ -40,9 +37,8 @@ pub extern "C" fn lafomeihu_xoodoo_rounds(st: &mut [u8; 48], n: usize) -> u8
     a.number
 }
 
-#[unsafe(no_mangle)]
-pub extern "C" fn lafomeihu_xoodoo_unrounds(st: &mut [u8; 48], n: usize) -> u8
-    ensures { let x = unrounds_of (record { st = st.entry.now }) n in (result ≡ x.number) × (st.exit.now ≡ x.state.st) }
+pub fn lafomeihu_xoodoo_unrounds(st: &mut [u8; 48], n: usize) -> u8
+    ensures { let x = unrounds_of (record { st = st.old }) n in (result ≡ x.number) × (st.new ≡ x.state.st) }
 {
     let b = *st;
     let a = Xoodoo::from_bytes(b).unrounds(n);
@@ -52,9 +48,8 @@ pub extern "C" fn lafomeihu_xoodoo_unrounds(st: &mut [u8; 48], n: usize) -> u8
     a.number
 }
 
-#[unsafe(no_mangle)]
-pub extern "C" fn lafomeihu_xoodoo_add_byte(st: &mut [u8; 48], byte: u8, offset: usize) -> u8
-    ensures { let x = add_byte_of (record { st = st.entry.now }) byte offset in (result ≡ x.number) × (st.exit.now ≡ x.state.st) }
+pub fn lafomeihu_xoodoo_add_byte(st: &mut [u8; 48], byte: u8, offset: usize) -> u8
+    ensures { let x = add_byte_of (record { st = st.old }) byte offset in (result ≡ x.number) × (st.new ≡ x.state.st) }
 {
     let b = *st;
     let a = Xoodoo::from_bytes(b).add_byte(byte, offset);
@@ -64,9 +59,8 @@ pub extern "C" fn lafomeihu_xoodoo_add_byte(st: &mut [u8; 48], byte: u8, offset:
     a.number
 }
 
-#[unsafe(no_mangle)]
-pub extern "C" fn lafomeihu_xoodoo_add_bytes(st: &mut [u8; 48], bin: &[u8]) -> u8
-    ensures { let x = add_bytes_of (record { st = st.entry.now }) bin.now in (result ≡ x.number) × (st.exit.now ≡ x.state.st) }
+pub fn lafomeihu_xoodoo_add_bytes(st: &mut [u8; 48], bin: &[u8]) -> u8
+    ensures { let x = add_bytes_of (record { st = st.old }) bin.now in (result ≡ x.number) × (st.new ≡ x.state.st) }
 {
     let b = *st;
     let a = Xoodoo::from_bytes(b).add_bytes(bin);
@@ -76,9 +70,8 @@ pub extern "C" fn lafomeihu_xoodoo_add_bytes(st: &mut [u8; 48], bin: &[u8]) -> u
     a.number
 }
 
-#[unsafe(no_mangle)]
-pub extern "C" fn lafomeihu_xoodoo_extract_bytes(st: &[u8; 48], out: &mut [u8]) -> u8
-    ensures { let x = extract_bytes_of (record { st = st.entry.now }) out.old in (result ≡ x.number) × (out.new ≡ x.bytes) }
+pub fn lafomeihu_xoodoo_extract_bytes(st: &[u8; 48], out: &mut [u8]) -> u8
+    ensures { let x = extract_bytes_of (record { st = st.now }) out.old in (result ≡ x.number) × (out.new ≡ x.bytes) }
 {
     let b = *st;
     Xoodoo::from_bytes(b).extract_bytes(out)

@@ -1,0 +1,14 @@
+-- The walk of an answer, with the lent buffer and the counts.
+use borrow.Author.Rules.{rules}
+use Rattle.xoodyak.specs.Calls.{squeeze_more_of}
+use Rattle.capi.proofs.Walk.{refusal, kept, lent}
+use Rattle.capi.proofs.hash.lafomeihu_squeeze_more.Goals as goal
+
+pub returns-then-sound : goal.returns-then-sound
+returns-then-sound c =
+    let d = c.session_of in
+    let a = c.args in
+    lent (kept _ _ _ _ _ _ c.sound.ensures c.if-sound.true (λ i. squeeze_more_of (d.ensures i) a.out.now) c.squeeze_more-a.ensures.value c.keep.ensures c.squeeze_more-a.ensures.out_after)
+
+pub returns : goal.returns
+returns c = lent (refusal _ _ _ _ _ _ c.sound.ensures c.if-sound.false)

@@ -1,0 +1,6 @@
+-- The inverse's own promise.
+use borrow.Author.Rules.{rules}
+use Rattle.capi.proofs.lafomeihu_xoodoo_inverse.Goals as goal
+
+pub returns : goal.returns
+returns c = c.inverse_bytes.ensures
