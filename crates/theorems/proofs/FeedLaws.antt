@@ -91,7 +91,7 @@ for-mode false p d = open-mode p d
 pub full-mode : (kind : Kind) (p : ℕ) (d : Duplex) (x : List ℕ) → (full kind p d x).duplex.mode ≡ d.mode
 unfolding full put
 full-mode kind p d [] = refl
-full-mode kind p d (b ∷ x) = full-mode kind _ _ x ∙ for-mode (is_open p) p d
+full-mode kind p d (b ∷ x) = full-mode kind (suc (place_in (is_open p) p)) _ x ∙ for-mode (is_open p) p d
 
 -- ---- inside a block
 full-as :
