@@ -28,12 +28,7 @@ fn put_back(st: &mut [u8; 48], head: &mut [u8; 6], phase: u8, a: Before)
     *head = g;
 }
 
-pub fn lafomeihu_back_absorb(
-    st: &mut [u8; 48],
-    head: &mut [u8; 6],
-    phase: u8,
-    bin: &[u8],
-) -> u8
+pub fn lafomeihu_back_absorb(st: &mut [u8; 48], head: &mut [u8; 6], phase: u8, bin: &[u8]) -> u8
     ensures { let x = exported_back (sound_with head.old phase) st.old head.old phase (absorbs bin.now) in (result ≡ x.number) × ((st.new ≡ x.st) × (head.new ≡ x.head)) }
 {
     let b = *st;
@@ -71,12 +66,7 @@ pub fn lafomeihu_back_absorb_more(
     40
 }
 
-pub fn lafomeihu_back_squeeze(
-    st: &mut [u8; 48],
-    head: &mut [u8; 6],
-    phase: u8,
-    n: usize,
-) -> u8
+pub fn lafomeihu_back_squeeze(st: &mut [u8; 48], head: &mut [u8; 6], phase: u8, n: usize) -> u8
     ensures { let x = exported_back (sound_with head.old phase) st.old head.old phase (squeezes n) in (result ≡ x.number) × ((st.new ≡ x.st) × (head.new ≡ x.head)) }
 {
     let b = *st;
@@ -92,12 +82,7 @@ pub fn lafomeihu_back_squeeze(
     40
 }
 
-pub fn lafomeihu_back_squeeze_key(
-    st: &mut [u8; 48],
-    head: &mut [u8; 6],
-    phase: u8,
-    n: usize,
-) -> u8
+pub fn lafomeihu_back_squeeze_key(st: &mut [u8; 48], head: &mut [u8; 6], phase: u8, n: usize) -> u8
     ensures { let x = exported_back (sound_with head.old phase) st.old head.old phase (squeezes_key n) in (result ≡ x.number) × ((st.new ≡ x.st) × (head.new ≡ x.head)) }
 {
     let b = *st;
@@ -113,12 +98,7 @@ pub fn lafomeihu_back_squeeze_key(
     40
 }
 
-pub fn lafomeihu_back_squeeze_more(
-    st: &mut [u8; 48],
-    head: &mut [u8; 6],
-    phase: u8,
-    n: usize,
-) -> u8
+pub fn lafomeihu_back_squeeze_more(st: &mut [u8; 48], head: &mut [u8; 6], phase: u8, n: usize) -> u8
     ensures { let x = exported_back (sound_with head.old phase) st.old head.old phase (squeezes_more n) in (result ≡ x.number) × ((st.new ≡ x.st) × (head.new ≡ x.head)) }
 {
     let b = *st;
@@ -185,12 +165,7 @@ pub fn lafomeihu_back_encrypt(
     40
 }
 
-pub fn lafomeihu_back_seal(
-    st: &mut [u8; 48],
-    head: &mut [u8; 6],
-    phase: u8,
-    plaintext: &[u8],
-) -> u8
+pub fn lafomeihu_back_seal(st: &mut [u8; 48], head: &mut [u8; 6], phase: u8, plaintext: &[u8]) -> u8
     ensures { let x = exported_back (sound_with head.old phase) st.old head.old phase (seals plaintext.now) in (result ≡ x.number) × ((st.new ≡ x.st) × (head.new ≡ x.head)) }
 {
     let b = *st;

@@ -58,11 +58,7 @@ pub fn lafomeihu_absorb_key_and_nonce<'a>(
     40
 }
 
-pub fn lafomeihu_ratchet(
-    st: &mut [u8; 48],
-    head: &mut [u8; 6],
-    counts: &mut [usize; 3],
-) -> u8
+pub fn lafomeihu_ratchet(st: &mut [u8; 48], head: &mut [u8; 6], counts: &mut [usize; 3]) -> u8
     ensures { let x = exported (sound head.old) st.old head.old [] [] counts.old (λ s. whole (ratchet_of s)) in (result ≡ x.number) × ((st.new ≡ x.st) × ((head.new ≡ x.head) × (counts.new ≡ x.counts))) }
 {
     let b = *st;

@@ -1,5 +1,6 @@
 // The port for C and Rust: exported functions over the caller's memory. Here are those of the permutation.
 #![tactic(auto)]
+
 pub mod aead;
 pub mod back;
 pub mod feed;

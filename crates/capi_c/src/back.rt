@@ -80,7 +80,18 @@ pub extern "C" fn lafomeihu_back_key<'a>(
 ) -> u8
     ensures { let x = exported_back (with_flags (sound_with head.old phase) has_id has_nonce has_counter) st.old head.old phase (keys key.now (flag_of has_id) id.now (flag_of has_nonce) nonce.now (flag_of has_counter) counter.now) in (result ≡ x.number) × ((st.new ≡ x.st) × (head.new ≡ x.head)) }
 {
-    capi::back::lafomeihu_back_key(st, head, phase, key, has_id, id, has_nonce, nonce, has_counter, counter)
+    capi::back::lafomeihu_back_key(
+        st,
+        head,
+        phase,
+        key,
+        has_id,
+        id,
+        has_nonce,
+        nonce,
+        has_counter,
+        counter,
+    )
 }
 
 #[unsafe(no_mangle)]

@@ -19,7 +19,19 @@ pub extern "C" fn lafomeihu_new<'a>(
 ) -> u8
     ensures { let x = exported (with_flags (ltb rule 2) has_nonce has_id has_counter) st.old head.old [] [] counts.old (λ _. whole (new_of (rule_of rule) key.now (flag_of has_nonce) nonce.now (flag_of has_id) id.now (flag_of has_counter) counter.now)) in (result ≡ x.number) × ((st.new ≡ x.st) × ((head.new ≡ x.head) × (counts.new ≡ x.counts))) }
 {
-    capi::keyed::lafomeihu_new(st, head, rule, key, has_nonce, nonce, has_id, id, has_counter, counter, counts)
+    capi::keyed::lafomeihu_new(
+        st,
+        head,
+        rule,
+        key,
+        has_nonce,
+        nonce,
+        has_id,
+        id,
+        has_counter,
+        counter,
+        counts,
+    )
 }
 
 #[unsafe(no_mangle)]
@@ -37,7 +49,18 @@ pub extern "C" fn lafomeihu_absorb_key_and_nonce<'a>(
 ) -> u8
     ensures { let x = exported (with_flags (sound head.old) has_id has_nonce has_counter) st.old head.old [] [] counts.old (λ s. whole (key_of s key.now (flag_of has_id) id.now (flag_of has_nonce) nonce.now (flag_of has_counter) counter.now)) in (result ≡ x.number) × ((st.new ≡ x.st) × ((head.new ≡ x.head) × (counts.new ≡ x.counts))) }
 {
-    capi::keyed::lafomeihu_absorb_key_and_nonce(st, head, key, has_id, id, has_nonce, nonce, has_counter, counter, counts)
+    capi::keyed::lafomeihu_absorb_key_and_nonce(
+        st,
+        head,
+        key,
+        has_id,
+        id,
+        has_nonce,
+        nonce,
+        has_counter,
+        counter,
+        counts,
+    )
 }
 
 #[unsafe(no_mangle)]

@@ -1,5 +1,6 @@
 // The static library for C and Rust: each exported call is the one of that name in crates/capi, with its promise. Here are those of the permutation.
 #![tactic(auto)]
+
 mod aead;
 mod back;
 mod feed;

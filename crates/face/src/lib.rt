@@ -1,5 +1,6 @@
 // Sessions that are lent and changed in place: each call hands the session to the by-value core and stores the one that comes back.
 #![tactic(auto)]
+
 pub mod aead;
 pub mod feed;
 pub mod hash;

@@ -1,5 +1,6 @@
 // Walking back: the 48 bytes before a call, from the 48 bytes after it.
 #![tactic(auto)]
+
 mod bytes;
 mod numbers;
 mod steps;

@@ -1,5 +1,6 @@
 // Xoodoo: the permutation of 48 bytes with a count of rounds, its inverse, and the calls on its bytes.
 #![tactic(auto)]
+
 ghost use Rattle.std.specs.Prelude.{◌≡◌, replicate};
 ghost use Rattle.xoodoo.specs.Xoodoo as xoodoo;
 ghost use Rattle.xoodoo.specs.Calls.{add_byte_of, add_bytes_of, extract_bytes_of, rounds_of, unrounds_of};

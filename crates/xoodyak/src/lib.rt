@@ -1,5 +1,6 @@
 // Xoodyak: sessions that absorb, squeeze, encrypt and seal, over the permutation's promise.
 #![tactic(auto)]
+
 pub mod aead;
 pub mod bytes;
 pub mod cyclist;

@@ -33,19 +33,19 @@ pub(crate) fn tail_number(size: usize) -> u8
     if size < 16 { 10 } else { 0 }
 }
 
-pub(crate) fn room_number(room: usize, res: usize) -> u8
-    ensures { result ≡ room_number room res }
+pub(crate) fn room_number(room: usize, needed: usize) -> u8
+    ensures { result ≡ room_number room needed }
 {
-    if room < res { 3 } else { 0 }
+    if room < needed { 3 } else { 0 }
 }
 
-pub(crate) fn missing(number: u8, room: usize, res: usize) -> usize
-    ensures { result ≡ missing number room res }
+pub(crate) fn missing(number: u8, room: usize, needed: usize) -> usize
+    ensures { result ≡ missing number room needed }
 {
     if number != 3 {
         return 0;
     }
-    if room < res { res - room } else { 0 }
+    if room < needed { needed - room } else { 0 }
 }
 
 impl Session {

@@ -1,6 +1,5 @@
 -- The bytes are made a state, and the call's own promise is carried over to them.
 use mathlib.Core.Path.{◌∙◌}
-use borrow.Author.Rules.{rules}
 use Rattle.xoodoo.specs.Calls.{add_bytes_of}
 use Rattle.capi.proofs.States.{both}
 use Rattle.capi.proofs.lafomeihu_xoodoo_add_bytes.Goals as goal

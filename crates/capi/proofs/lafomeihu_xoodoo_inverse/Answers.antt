@@ -1,5 +1,4 @@
 -- The inverse's own promise.
-use borrow.Author.Rules.{rules}
 use Rattle.capi.proofs.lafomeihu_xoodoo_inverse.Goals as goal
 
 pub returns : goal.returns

@@ -1,5 +1,4 @@
 -- The permutation's own promise.
-use borrow.Author.Rules.{rules}
 use Rattle.capi.proofs.lafomeihu_xoodoo_permute.Goals as goal
 
 pub returns : goal.returns

@@ -4,7 +4,6 @@ use native.Mathlib.Omega.{arith}
 use Rattle.walkback.specs.Walk.{absorbs, call_number, steps, back}
 use Rattle.walkback.proofs.Undoing.{absorb-rate-pos, absorb-rate-le}
 use Rattle.walkback.proofs.Settling.{before-taken}
-use borrow.Author.Rules.{rules}
 use Rattle.walkback.proofs.absorb.Goals as goal
 
 pub undo_absorb-requires : goal.undo_absorb-requires

@@ -3,7 +3,6 @@ use mathlib.Core.Path.{◌≡◌, sym, ◌∙◌}
 use native.Mathlib.Omega.{arith}
 use Rattle.walkback.specs.Walk.{absorbs_more, call_number, steps, back}
 use Rattle.walkback.proofs.Settling.{rate-bounds, before-taken, before-refused}
-use borrow.Author.Rules.{rules}
 use Rattle.walkback.proofs.absorb_more.Goals as goal
 
 pub returns-then-number-ne0 : goal.returns-then-number-ne0

@@ -3,7 +3,6 @@ use mathlib.Core.Path.{◌≡◌, sym, ◌∙◌}
 use native.Mathlib.Omega.{arith}
 use Rattle.walkback.specs.Walk.{encrypts, call_number, steps, back}
 use Rattle.walkback.proofs.Settling.{before-taken, before-refused}
-use borrow.Author.Rules.{rules}
 use Rattle.walkback.proofs.encrypt.Goals as goal
 
 pub returns-then-number-ne0 : goal.returns-then-number-ne0

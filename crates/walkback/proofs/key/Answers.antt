@@ -5,7 +5,6 @@ use lib.ListN.{length}
 use Rattle.xoodyak.specs.Numbers.{first}
 use Rattle.walkback.specs.Walk.{keys, call_number, steps, back}
 use Rattle.walkback.proofs.Settling.{key-bounds, before-taken, before-refused}
-use borrow.Author.Rules.{rules}
 use Rattle.walkback.proofs.key.Goals as goal
 
 pub returns-then-number-ne0 : goal.returns-then-number-ne0

@@ -1,5 +1,4 @@
 -- Both rules, as the definition goes by them.
-use borrow.Author.Rules.{rules}
 use Rattle.walkback.proofs.message_phase.Goals as goal
 
 pub returns-in-Crate : goal.returns-in-Crate

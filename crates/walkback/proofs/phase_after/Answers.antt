@@ -1,5 +1,4 @@
 -- Each kind has its own answer; two of them leave the phase where nothing was given, and a message goes by the rule.
-use borrow.Author.Rules.{rules}
 use Rattle.walkback.proofs.phase_after.Goals as goal
 
 pub returns-in-AbsorbMore : goal.returns-in-AbsorbMore

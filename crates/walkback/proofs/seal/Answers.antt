@@ -4,7 +4,6 @@ use native.Mathlib.Omega.{arith}
 use Rattle.walkback.specs.Walk.{seals, call_number, steps, back}
 use Rattle.walkback.proofs.Undoing.{append-undone}
 use Rattle.walkback.proofs.Settling.{before-taken, before-refused}
-use borrow.Author.Rules.{rules}
 use Rattle.walkback.proofs.seal.Goals as goal
 
 pub returns-then-number-ne0 : goal.returns-then-number-ne0

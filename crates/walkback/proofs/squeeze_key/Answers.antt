@@ -2,7 +2,6 @@
 use mathlib.Core.Path.{refl}
 use Rattle.walkback.specs.Walk.{squeezes_key, call_number, steps, back}
 use Rattle.walkback.proofs.Settling.{before-taken}
-use borrow.Author.Rules.{rules}
 use Rattle.walkback.proofs.squeeze_key.Goals as goal
 
 pub returns : goal.returns

@@ -2,7 +2,6 @@
 use mathlib.Core.Path.{refl}
 use Rattle.walkback.specs.Walk.{squeezes_more, call_number, steps, back}
 use Rattle.walkback.proofs.Settling.{before-taken}
-use borrow.Author.Rules.{rules}
 use Rattle.walkback.proofs.squeeze_more.Goals as goal
 
 pub returns : goal.returns

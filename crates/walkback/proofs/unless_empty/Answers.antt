@@ -2,7 +2,6 @@
 use mathlib.Core.Path.{sym}
 use native.Mathlib.Omega.{arith}
 use Rattle.walkback.proofs.Settling.{unless-pos}
-use borrow.Author.Rules.{rules}
 use Rattle.walkback.proofs.unless_empty.Goals as goal
 
 pub returns-else-n-eq0 : goal.returns-else-n-eq0

@@ -1,5 +1,4 @@
 -- The walk of an answer, with the lent buffer and the counts; what is decoded beside the session is the tag and the flag.
-use borrow.Author.Rules.{rules}
 use Rattle.xoodyak.specs.Cyclist.{given}
 use Rattle.xoodyak.specs.Calls.{open_detached_of}
 use Rattle.capi.proofs.Walk.{refusal, kept, lent}

@@ -1,5 +1,4 @@
 -- The walk of an answer, with the lent buffer and the counts; what is decoded beside the session is the tag.
-use borrow.Author.Rules.{rules}
 use Rattle.xoodyak.specs.Calls.{open_in_place_detached_of}
 use Rattle.capi.proofs.Walk.{refusal, kept, lent}
 use Rattle.capi.proofs.aead.lafomeihu_aead_decrypt_in_place_detached.Goals as goal

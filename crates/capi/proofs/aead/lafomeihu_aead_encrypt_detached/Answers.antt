@@ -1,5 +1,4 @@
 -- The walk of a sealed record, with the lent buffer, the tag handed out and the counts; what is decoded beside the session is the flag.
-use borrow.Author.Rules.{rules}
 use Rattle.xoodyak.specs.Cyclist.{given}
 use Rattle.xoodyak.specs.Calls.{seal_detached_of}
 use Rattle.capi.proofs.Walk.{refusal, sealed, all}

@@ -1,5 +1,4 @@
 -- The walk of a sealed record, with the lent buffer, the tag handed out and the counts.
-use borrow.Author.Rules.{rules}
 use Rattle.xoodyak.specs.Calls.{seal_in_place_detached_of}
 use Rattle.capi.proofs.Walk.{refusal, sealed, all}
 use Rattle.capi.proofs.aead.lafomeihu_aead_encrypt_in_place_detached.Goals as goal

@@ -1,6 +1,5 @@
 -- The tag's own promise, on the caller's 16 bytes.
 use mathlib.Core.Path.{◌∙◌}
-use borrow.Author.Rules.{rules}
 use Rattle.xoodyak.specs.Calls.{verify_of}
 use Rattle.capi.proofs.aead.lafomeihu_verify.Goals as goal
 

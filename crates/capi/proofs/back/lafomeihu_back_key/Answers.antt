@@ -1,5 +1,4 @@
 -- The walk of a step back; the flags are decoded too.
-use borrow.Author.Rules.{rules}
 use Rattle.walkback.specs.Walk.{keys}
 use Rattle.capi.proofs.Walk.{flagged}
 use Rattle.capi.proofs.Steps.{refusal, step, three}

@@ -1,6 +1,5 @@
 -- The walk of a step back.
 use mathlib.Core.Path.{refl}
-use borrow.Author.Rules.{rules}
 use Rattle.capi.proofs.Steps.{refusal, step, three}
 use Rattle.capi.proofs.back.lafomeihu_back_squeeze.Goals as goal
 

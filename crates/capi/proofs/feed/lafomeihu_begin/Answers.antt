@@ -1,6 +1,5 @@
 -- The walk of an answer; what is decoded beside the session is the kind.
 use mathlib.Core.Path.{refl}
-use borrow.Author.Rules.{rules}
 use Rattle.xoodyak.specs.Feed.{begin_of}
 use Rattle.capi.proofs.Walk.{refusal, answer, three}
 use Rattle.capi.proofs.feed.lafomeihu_begin.Goals as goal

@@ -1,5 +1,4 @@
 -- The walk of a feed, with the lent buffer and the counts; what is decoded beside the session is the kind.
-use borrow.Author.Rules.{rules}
 use Rattle.xoodyak.specs.Feed.{feed_of}
 use Rattle.capi.proofs.Portions.{fed}
 use Rattle.capi.proofs.Walk.{refusal, lent}

@@ -1,5 +1,4 @@
 -- The walk of a finish, with the counts; what is decoded beside the session is the tag.
-use borrow.Author.Rules.{rules}
 use Rattle.xoodyak.specs.Feed.{finish_open_of}
 use Rattle.capi.proofs.Portions.{finished, none-opening}
 use Rattle.capi.proofs.Walk.{refusal, counted}

@@ -1,5 +1,4 @@
 -- The walk of a finish, with the tag handed out and the counts.
-use borrow.Author.Rules.{rules}
 use Rattle.xoodyak.specs.Feed.{finish_seal_of}
 use Rattle.capi.proofs.Portions.{finished, none-sealing}
 use Rattle.capi.proofs.Walk.{refusal, tagged}

@@ -1,6 +1,5 @@
 -- The walk of an answer, with the counts.
 use mathlib.Core.Path.{refl}
-use borrow.Author.Rules.{rules}
 use Rattle.xoodyak.specs.Calls.{absorb_of}
 use Rattle.capi.proofs.Walk.{refusal, kept, counted}
 use Rattle.capi.proofs.hash.lafomeihu_absorb.Goals as goal

@@ -1,7 +1,6 @@
 -- The walk of an answer that is 0, with a session made new.
 use mathlib.Core.List.{[]}
 use mathlib.Core.Path.{refl, ◌∙◌}
-use borrow.Author.Rules.{rules}
 use borrow.Author.Tests.{lt-ltb, le-ltb}
 use Rattle.xoodyak.specs.declared.cyclist.Mode.TheVariants.{Hash}
 use Rattle.xoodyak.specs.Calls.{taken, session, no_tag}

@@ -1,5 +1,4 @@
 -- The walk of an answer, with the lent buffer and the counts.
-use borrow.Author.Rules.{rules}
 use Rattle.xoodyak.specs.Calls.{squeeze_of}
 use Rattle.capi.proofs.Walk.{refusal, kept, lent}
 use Rattle.capi.proofs.hash.lafomeihu_squeeze.Goals as goal

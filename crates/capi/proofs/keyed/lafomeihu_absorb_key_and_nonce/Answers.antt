@@ -1,6 +1,5 @@
 -- The walk of an answer, with the counts; what is decoded beside the session is the flags.
 use mathlib.Core.Path.{refl}
-use borrow.Author.Rules.{rules}
 use Rattle.xoodyak.specs.Calls.{key_of}
 use Rattle.capi.proofs.Walk.{flagged, refusal, kept, counted}
 use Rattle.capi.proofs.keyed.lafomeihu_absorb_key_and_nonce.Goals as goal

@@ -1,6 +1,5 @@
 -- The walk of an answer, with the counts; what is decoded beside the session is the rule and the flags.
 use mathlib.Core.Path.{refl}
-use borrow.Author.Rules.{rules}
 use Rattle.xoodyak.specs.Calls.{new_of}
 use Rattle.capi.proofs.Walk.{refusal, kept, counted}
 use Rattle.capi.proofs.keyed.lafomeihu_new.Goals as goal

@@ -1,6 +1,5 @@
 -- Each number but the place is encoded by itself.
 use mathlib.Core.List.{[], ◌∷◌}
-use borrow.Author.Rules.{rules}
 use Rattle.capi.proofs.session.head_of.Goals as goal
 
 pub returns : goal.returns

@@ -1,6 +1,5 @@
 -- The bytes are the session's own, and the head is its six numbers.
 use mathlib.Core.Path.{refl}
-use borrow.Author.Rules.{rules}
 use Rattle.capi.proofs.session.put.Goals as goal
 
 pub returns : goal.returns

@@ -1,6 +1,5 @@
 -- The bytes stay, and each number of the head but the place is decoded by itself.
 use lib.ListN.{get_or}
-use borrow.Author.Rules.{rules}
 use Rattle.capi.proofs.session.session_of.Goals as goal
 
 pub returns : goal.returns

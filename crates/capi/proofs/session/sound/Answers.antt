@@ -1,5 +1,4 @@
 -- The tests are the definition's, one after the other.
-use borrow.Author.Rules.{rules}
 use borrow.Author.Tests.{lt-ltb, le-ltb}
 use Rattle.capi.specs.Capi.{sound}
 use Rattle.capi.proofs.session.sound.Goals as goal

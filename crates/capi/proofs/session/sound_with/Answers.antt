@@ -1,6 +1,5 @@
 -- The head's test first, then the number's.
 use mathlib.Core.Path.{sym}
-use borrow.Author.Rules.{rules}
 use Rattle.capi.specs.Capi.{sound_with}
 use Rattle.capi.proofs.session.sound_with.Goals as goal
 

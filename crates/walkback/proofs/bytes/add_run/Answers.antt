@@ -1,13 +1,9 @@
 -- After i turns the first i bytes of x are added; a turn adds one byte more.
-use mathlib.Core.Path.{◌≡◌, sym, ◌∙◌}
-use Prim.Native.Nat.{◌-◌, ◌≤◌}
+use mathlib.Core.Path.{sym, ◌∙◌}
 use native.Mathlib.Numerals.{add-one}
 use native.Mathlib.Omega.{arith}
-use lib.ListN.{length, take}
 use lib.Seq.{take_all}
-use borrow.Author.Rules.{rules}
 use Rattle.laws.specs.Words.{◌⊕◌}
-use Rattle.laws.specs.Lists.{add_front}
 use Rattle.laws.proofs.Lists.{add_front-nil, add_front-step}
 use Rattle.walkback.proofs.bytes.add_run.Goals as goal
 

@@ -2,7 +2,6 @@
 use Prim.Native.Nat.{◌-◌}
 use native.Mathlib.Nat.{mod-le}
 use native.Mathlib.Omega.{arith}
-use borrow.Author.Rules.{rules}
 use Rattle.walkback.proofs.bytes.last_block.Goals as goal
 
 pub overflow_add-result : goal.overflow_add-result

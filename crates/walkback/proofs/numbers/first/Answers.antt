@@ -2,7 +2,6 @@
 use mathlib.Core.Path.{sym}
 use native.Mathlib.Omega.{arith}
 use Rattle.walkback.proofs.Settling.{first_pos}
-use borrow.Author.Rules.{rules}
 use Rattle.walkback.proofs.numbers.first.Goals as goal
 
 pub returns-else-a-eq0 : goal.returns-else-a-eq0

@@ -1,5 +1,4 @@
 -- Both rules, as the definition goes by them.
-use borrow.Author.Rules.{rules}
 use Rattle.walkback.proofs.numbers.is_empty_block.Goals as goal
 
 pub returns-in-Specification : goal.returns-in-Specification

@@ -2,7 +2,6 @@
 use mathlib.Core.Path.{sym}
 use native.Mathlib.Omega.{arith}
 use Rattle.walkback.proofs.Settling.{zero-rate, rate-over, rate-within}
-use borrow.Author.Rules.{rules}
 use Rattle.walkback.proofs.numbers.rate_number.Goals as goal
 
 pub returns-then-rate-eq0 : goal.returns-then-rate-eq0

@@ -1,10 +1,9 @@
 -- After i turns the key and the first i bytes of t are added; the length of t comes last. Every byte call is in bounds.
 use mathlib.Core.Path.{◌≡◌, sym, ap, ◌∙◌}
 use mathlib.Core.List.{List}
-use Prim.Native.Nat.{ℕ, ◌+◌, ◌-◌, ◌≤◌}
+use Prim.Native.Nat.{ℕ, ◌+◌, ◌≤◌}
 use native.Mathlib.Omega.{arith}
 use lib.ListN.{length, take}
-use borrow.Author.Rules.{rules}
 use borrow.Author.Tests.{le-leb}
 use Rattle.laws.specs.Lists.{add_front}
 use Rattle.xoodoo.specs.declared.Xoodoo.{Xoodoo}

@@ -1,16 +1,10 @@
 -- After i turns the key and the first i bytes of t are added; the length of t comes last. Every byte call is in bounds.
-use mathlib.Core.Path.{◌≡◌, sym, ap, ◌∙◌}
+use mathlib.Core.Path.{◌≡◌}
 use mathlib.Core.List.{List}
 use Prim.Native.Nat.{ℕ, ◌+◌, ◌-◌, ◌≤◌}
-use native.Mathlib.Omega.{arith}
 use lib.ListN.{length, take}
-use borrow.Author.Rules.{rules}
-use borrow.Author.Tests.{le-leb}
 use Rattle.laws.specs.Lists.{add_front}
-use Rattle.xoodoo.specs.declared.Xoodoo.{Xoodoo}
-use Rattle.xoodoo.specs.Calls.{add_byte_of, add_bytes_of}
 use Rattle.walkback.specs.Walk.{key_run}
-use Rattle.walkback.proofs.Undoing.{key-first, key-next, key-last}
 use Rattle.walkback.proofs.steps.add_key.Given as goal
 
 abbrev pub invariant-loop-i : goal.invariant-loop-i

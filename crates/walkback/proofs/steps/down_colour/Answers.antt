@@ -1,6 +1,5 @@
 -- In Hash the colour is cut to its lowest bit.
 use Rattle.laws.specs.Words.{◌⊙◌}
-use borrow.Author.Rules.{rules}
 use Rattle.walkback.proofs.steps.down_colour.Goals as goal
 
 pub returns-in-Hash : goal.returns-in-Hash

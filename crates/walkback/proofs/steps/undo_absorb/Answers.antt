@@ -5,7 +5,6 @@ use native.Mathlib.Omega.{arith}
 use lib.ListN.{length, drop, length-take, length-drop}
 use lib.Seq.{length-take-le, take_all}
 use Rattle.walkback.proofs.Undoing.{absorb-undone}
-use borrow.Author.Rules.{rules}
 use Rattle.walkback.proofs.steps.undo_absorb.Goals as goal
 
 pub slice_bounds-undo_down-end : goal.slice_bounds-undo_down-end

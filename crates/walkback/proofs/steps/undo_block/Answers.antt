@@ -1,6 +1,5 @@
 -- Down was the later step, so it is undone first.
 use Rattle.walkback.specs.Steps.{undo, block_steps}
-use borrow.Author.Rules.{rules}
 use Rattle.walkback.proofs.steps.undo_block.Goals as goal
 
 pub returns : goal.returns

@@ -4,9 +4,8 @@ use mathlib.Core.List.{[], ◌∷◌}
 use Prim.Native.Nat.{◌+◌, ◌-◌, ◌%◌, ◌<◌, ◌≤◌}
 use native.Mathlib.Nat.{mod-le, mod-lt}
 use native.Mathlib.Omega.{arith}
-use lib.ListN.{length, take, drop, length-take}
+use lib.ListN.{take, drop, length-take}
 use lib.Seq.{take-length}
-use borrow.Author.Rules.{rules}
 use Rattle.laws.specs.Blocks.{cuts}
 use Rattle.walkback.specs.Steps.{undo, block_steps}
 use Rattle.walkback.proofs.Undoing.{colour_after, colour-first, colour-other, undo-turn, undo-turned}
@@ -90,8 +89,8 @@ loop-left-preserved c =
     let i = c.loop-left.left - c.last_block-k.result in
     let h = size in
     elim c.if-i-eq0.branch [
-      then-i-eq0 w ↦ w.colour-is ∙ colour-first a.cu a.rate i a.bin.now (omega arith)
-    | else-i-eq0 w ↦ w.colour-is ∙ colour-other a.cu a.rate i a.bin.now (omega arith) (omega arith) (omega arith)
+      | then-i-eq0 w ↦ w.colour-is ∙ colour-first a.cu a.rate i a.bin.now (omega arith)
+      | else-i-eq0 w ↦ w.colour-is ∙ colour-other a.cu a.rate i a.bin.now (omega arith) (omega arith) (omega arith)
     ] in
     let a = c.args in
     let e = c.loop-left.left in

@@ -1,16 +1,9 @@
 -- What is left to undo are the blocks before the last one undone, and only the first of all has the colour cu.
-use mathlib.Core.Path.{◌≡◌, sym, ap, ◌∙◌}
-use mathlib.Core.Logic.{⊎_elim}
-use mathlib.Core.List.{[], ◌∷◌}
-use Prim.Native.Nat.{◌+◌, ◌-◌, ◌%◌, ◌<◌, ◌≤◌}
-use native.Mathlib.Nat.{mod-le, mod-lt}
-use native.Mathlib.Omega.{arith}
-use lib.ListN.{length, take, drop, length-take}
-use lib.Seq.{take-length}
-use borrow.Author.Rules.{rules}
+use mathlib.Core.Path.{◌≡◌}
+use Prim.Native.Nat.{◌≤◌}
+use lib.ListN.{length, take}
 use Rattle.laws.specs.Blocks.{cuts}
 use Rattle.walkback.specs.Steps.{undo, block_steps}
-use Rattle.walkback.proofs.Undoing.{colour_after, colour-first, colour-other, undo-turn, undo-turned}
 use Rattle.walkback.proofs.steps.undo_blocks.Given as goal
 
 abbrev pub invariant-loop-left : goal.invariant-loop-left

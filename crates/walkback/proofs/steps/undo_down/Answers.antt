@@ -1,7 +1,6 @@
 -- Adding the run, the padding and the colour again takes them away.
 use Rattle.xoodyak.specs.Cyclist.{down_bytes}
 use Rattle.walkback.specs.Steps.{undoes}
-use borrow.Author.Rules.{rules}
 use Rattle.walkback.proofs.steps.undo_down.Goals as goal
 
 pub returns : goal.returns

@@ -9,7 +9,6 @@ use Rattle.xoodyak.specs.Cyclist.{down_colour, down_bytes, chosen}
 use Rattle.walkback.specs.Steps.{down_step, undoes, undo, absorb_steps}
 use Rattle.walkback.specs.Walk.{if_steps, key_run}
 use Rattle.walkback.proofs.Undoing.{if-true, if-false, key-undone, absorb-one, length_run, chosen-length}
-use borrow.Author.Rules.{rules}
 use Rattle.walkback.proofs.steps.undo_key.Goals as goal
 use Rattle.walkback.proofs.steps.undo_key.Goals.{then-has_counter, else-has_counter, then-has_id, else-has_id}
 

@@ -3,7 +3,6 @@ use mathlib.Core.Path.{◌≡◌, sym, ap, ◌∙◌}
 use native.Mathlib.Omega.{arith}
 use lib.ListN.{length}
 use Rattle.xoodyak.proofs.Message.{message-empty, message-cuts}
-use borrow.Author.Rules.{rules}
 use Rattle.walkback.proofs.steps.undo_message.Goals as goal
 
 pub undo_block-requires : goal.undo_block-requires

@@ -3,7 +3,6 @@ use mathlib.Core.Path.{ap, ◌∙◌}
 use mathlib.Core.List.{[]}
 use Rattle.walkback.specs.Steps.{down_step, undoes, undo}
 use Rattle.walkback.proofs.Undoing.{padding-undone}
-use borrow.Author.Rules.{rules}
 use Rattle.walkback.proofs.steps.undo_next.Goals as goal
 
 pub returns : goal.returns

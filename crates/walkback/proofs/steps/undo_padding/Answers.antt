@@ -1,6 +1,5 @@
 -- Both bytes are in bounds.
 use Rattle.laws.specs.Words.{◌⊕◌}
-use borrow.Author.Rules.{rules}
 use Rattle.walkback.proofs.steps.undo_padding.Goals as goal
 
 pub returns : goal.returns

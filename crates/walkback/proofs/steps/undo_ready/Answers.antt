@@ -1,6 +1,5 @@
 -- There was an Up only where the phase was Down.
 use Rattle.walkback.specs.Steps.{undo}
-use borrow.Author.Rules.{rules}
 use Rattle.walkback.proofs.steps.undo_ready.Goals as goal
 
 pub returns-in-Up : goal.returns-in-Up

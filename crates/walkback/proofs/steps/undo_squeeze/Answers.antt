@@ -1,6 +1,5 @@
 -- All but the first block are undone first, then the Up with cu, which every squeeze has.
 use Rattle.walkback.proofs.Undoing.{squeeze-undone}
-use borrow.Author.Rules.{rules}
 use Rattle.walkback.proofs.steps.undo_squeeze.Goals as goal
 
 pub returns : goal.returns

@@ -1,8 +1,7 @@
 -- The blocks of a squeeze are all alike, so that undoing one leaves the squeeze of what is left.
-use mathlib.Core.Path.{◌≡◌, refl, sym, ap, ◌∙◌}
+use mathlib.Core.Path.{refl, sym, ap, ◌∙◌}
 use Prim.Native.Nat.{◌-◌}
 use native.Mathlib.Omega.{arith}
-use borrow.Author.Rules.{rules}
 use Rattle.xoodyak.proofs.Turns.{rate-pos}
 use Rattle.walkback.specs.Steps.{undo, squeeze_more_steps}
 use Rattle.walkback.proofs.Undoing.{more_turn, more-turned}

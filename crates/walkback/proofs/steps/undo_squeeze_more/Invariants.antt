@@ -1,11 +1,6 @@
 -- The blocks of a squeeze are all alike, so that undoing one leaves the squeeze of what is left.
-use mathlib.Core.Path.{◌≡◌, refl, sym, ap, ◌∙◌}
-use Prim.Native.Nat.{◌-◌}
-use native.Mathlib.Omega.{arith}
-use borrow.Author.Rules.{rules}
-use Rattle.xoodyak.proofs.Turns.{rate-pos}
+use mathlib.Core.Path.{◌≡◌}
 use Rattle.walkback.specs.Steps.{undo, squeeze_more_steps}
-use Rattle.walkback.proofs.Undoing.{more_turn, more-turned}
 use Rattle.walkback.proofs.steps.undo_squeeze_more.Given as goal
 
 abbrev pub invariant-loop-left : goal.invariant-loop-left

@@ -1,7 +1,6 @@
 -- In Hash the inverse permutation alone, in Keyed the colour at byte 47 besides.
 use Rattle.laws.specs.Words.{◌⊕◌}
 use Rattle.walkback.specs.Steps.{undoes}
-use borrow.Author.Rules.{rules}
 use Rattle.walkback.proofs.steps.undo_up.Goals as goal
 
 pub returns-in-Hash : goal.returns-in-Hash

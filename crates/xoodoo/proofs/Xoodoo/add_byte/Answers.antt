@@ -1,5 +1,4 @@
 -- The test is the definition's, and the one store is `add_at`.
-use borrow.Author.Rules.{rules}
 use borrow.Author.Tests.{le-leb, lt-leb}
 use Rattle.laws.specs.Words.{◌⊕◌}
 use Rattle.xoodoo.specs.Calls.{add_byte_of}

@@ -1,7 +1,6 @@
 -- After i turns the first i bytes of the output are the state's, and the rest is as it was.
 use mathlib.Core.Path.{◌≡◌, refl, ap, ◌∙◌}
 use mathlib.Core.List.{◌++◌}
-use Prim.Native.Nat.{◌≤◌, ◌-◌}
 use native.Mathlib.Omega.{arith}
 use lib.ListN.{take, drop, length, length-set}
 use borrow.Author.Rules.{rules}

@@ -1,13 +1,8 @@
 -- After i turns the first i bytes of the output are the state's, and the rest is as it was.
-use mathlib.Core.Path.{◌≡◌, refl, ap, ◌∙◌}
+use mathlib.Core.Path.{◌≡◌}
 use mathlib.Core.List.{◌++◌}
 use Prim.Native.Nat.{◌≤◌, ◌-◌}
-use native.Mathlib.Omega.{arith}
-use lib.ListN.{take, drop, length, length-set}
-use borrow.Author.Rules.{rules}
-use borrow.Author.Tests.{le-leb, lt-leb}
-use Rattle.xoodoo.specs.Calls.{extract_bytes_of}
-use Rattle.xoodoo.proofs.Runs.{copy-next, copy-all}
+use lib.ListN.{take, drop, length}
 use Rattle.xoodoo.proofs.Xoodoo.extract_bytes.Given as goal
 
 abbrev pub invariant-loop-i : goal.invariant-loop-i

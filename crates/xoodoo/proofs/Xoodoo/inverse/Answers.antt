@@ -1,5 +1,4 @@
 -- The rounds are taken back where the bytes lie.
-use borrow.Author.Rules.{rules}
 use Rattle.xoodoo.proofs.Xoodoo.inverse.Goals as goal
 
 pub returns : goal.returns

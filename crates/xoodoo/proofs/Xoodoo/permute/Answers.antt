@@ -1,5 +1,4 @@
 -- The bytes are permuted where they lie.
-use borrow.Author.Rules.{rules}
 use Rattle.xoodoo.proofs.Xoodoo.permute.Goals as goal
 
 pub returns : goal.returns

@@ -1,5 +1,4 @@
 -- The test is the definition's; then load, the rounds, store.
-use borrow.Author.Rules.{rules}
 use borrow.Author.Tests.{le-leb, lt-leb}
 use Rattle.xoodoo.specs.Xoodoo.{inverse_rounds}
 use Rattle.xoodoo.specs.Calls.{unrounds_of}

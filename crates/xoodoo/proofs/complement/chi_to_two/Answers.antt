@@ -1,5 +1,4 @@
 -- Chi of the plain state, word by word.
-use borrow.Author.Rules.{rules}
 use Rattle.xoodoo.proofs.Planes.{Good}
 use Rattle.xoodoo.proofs.Known.{known}
 use Rattle.xoodoo.proofs.Nots.{chi-two}

@@ -1,5 +1,4 @@
 -- Plane 0 alone.
-use borrow.Author.Rules.{rules}
 use Rattle.xoodoo.specs.Frame.{not_one}
 use Rattle.xoodoo.proofs.complement.not_one.Goals as goal
 

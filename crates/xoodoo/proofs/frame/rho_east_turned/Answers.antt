@@ -1,5 +1,4 @@
 -- Rotations by 24 and 1 are one by 25; by 24 and 8 they are none.
-use borrow.Author.Rules.{rules}
 use Rattle.xoodoo.proofs.Planes.{Good}
 use Rattle.xoodoo.proofs.Known.{known}
 use Rattle.xoodoo.proofs.Turned.{rho_east-turned}

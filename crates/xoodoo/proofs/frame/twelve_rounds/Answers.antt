@@ -1,9 +1,8 @@
 -- The rounds that are left, of the plain state now, are all twelve of the first state.
 use mathlib.Core.Path.{◌≡◌, refl, sym, ap, ◌∙◌}
-use Prim.Native.Nat.{◌≤◌, ◌-◌, ◌+◌, ◌%◌}
+use Prim.Native.Nat.{◌+◌}
 use native.Mathlib.Omega.{arith}
 use lib.ListN.{drop}
-use borrow.Author.Rules.{rules}
 use Rattle.xoodoo.specs.Xoodoo.{rounds, constants}
 use Rattle.xoodoo.specs.Frame.{not_one}
 use Rattle.xoodoo.proofs.Planes.{Good}

@@ -1,16 +1,10 @@
 -- The rounds that are left, of the plain state now, are all twelve of the first state.
-use mathlib.Core.Path.{◌≡◌, refl, sym, ap, ◌∙◌}
-use Prim.Native.Nat.{◌≤◌, ◌-◌, ◌+◌, ◌%◌}
-use native.Mathlib.Omega.{arith}
+use mathlib.Core.Path.{◌≡◌}
+use Prim.Native.Nat.{◌≤◌, ◌-◌, ◌%◌}
 use lib.ListN.{drop}
-use borrow.Author.Rules.{rules}
 use Rattle.xoodoo.specs.Xoodoo.{rounds, constants}
 use Rattle.xoodoo.specs.Frame.{not_one}
 use Rattle.xoodoo.proofs.Planes.{Good}
-use Rattle.xoodoo.proofs.Known.{known}
-use Rattle.xoodoo.proofs.Inverse.{constant-lt}
-use Rattle.xoodoo.proofs.Nots.{one, not_good, twice, quick-good}
-use Rattle.xoodoo.proofs.Walk.{rounds-four, rounds-end}
 use Rattle.xoodoo.proofs.frame.twelve_rounds.Given as goal
 
 abbrev pub invariant-loop-i : goal.invariant-loop-i

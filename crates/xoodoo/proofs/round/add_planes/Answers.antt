@@ -1,5 +1,4 @@
 -- The same plane is added to all three.
-use borrow.Author.Rules.{rules}
 use Rattle.xoodoo.specs.Xoodoo.{add_planes}
 use Rattle.xoodoo.proofs.round.add_planes.Goals as goal
 

@@ -1,5 +1,4 @@
 -- All three planes are read before any is changed.
-use borrow.Author.Rules.{rules}
 use Rattle.xoodoo.specs.Xoodoo.{chi}
 use Rattle.xoodoo.proofs.round.chi.Goals as goal
 

@@ -1,5 +1,4 @@
 -- The two rotations are added and moved one column up.
-use borrow.Author.Rules.{rules}
 use Rattle.xoodoo.specs.Xoodoo.{effect}
 use Rattle.xoodoo.proofs.round.effect.Goals as goal
 

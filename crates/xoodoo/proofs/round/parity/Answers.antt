@@ -1,5 +1,4 @@
 -- The three planes are added.
-use borrow.Author.Rules.{rules}
 use Rattle.xoodoo.specs.Xoodoo.{parity}
 use Rattle.xoodoo.proofs.round.parity.Goals as goal
 

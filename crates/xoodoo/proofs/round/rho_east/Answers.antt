@@ -1,5 +1,4 @@
 -- Plane 1 is rotated, plane 2 moves two columns and is rotated.
-use borrow.Author.Rules.{rules}
 use Rattle.xoodoo.specs.Xoodoo.{rho_east}
 use Rattle.xoodoo.proofs.round.rho_east.Goals as goal
 

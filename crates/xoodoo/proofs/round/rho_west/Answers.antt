@@ -1,5 +1,4 @@
 -- Plane 1 moves up, plane 2 is rotated.
-use borrow.Author.Rules.{rules}
 use Rattle.xoodoo.specs.Xoodoo.{rho_west}
 use Rattle.xoodoo.proofs.round.rho_west.Goals as goal
 

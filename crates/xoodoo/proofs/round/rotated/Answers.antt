@@ -1,6 +1,5 @@
 -- `rotl` is the code's own form.
 use mathlib.Core.Path.{refl}
-use borrow.Author.Rules.{rules}
 use Rattle.laws.specs.Words.{rotl}
 use Rattle.xoodoo.proofs.round.rotated.Goals as goal
 

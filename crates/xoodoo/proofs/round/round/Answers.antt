@@ -1,5 +1,4 @@
 -- The five steps in order.
-use borrow.Author.Rules.{rules}
 use Rattle.xoodoo.specs.Xoodoo.{round}
 use Rattle.xoodoo.proofs.round.round.Goals as goal
 

@@ -1,11 +1,8 @@
 -- The rounds that are left, of the state now, are all n of the first state.
-use mathlib.Core.Path.{◌≡◌, refl, sym, ap, ◌∙◌}
-use Prim.Native.Nat.{◌≤◌, ◌-◌, ◌+◌}
-use native.Mathlib.Omega.{arith}
+use mathlib.Core.Path.{◌≡◌}
+use Prim.Native.Nat.{◌≤◌, ◌-◌}
 use lib.ListN.{drop}
-use borrow.Author.Rules.{rules}
 use Rattle.xoodoo.specs.Xoodoo.{rounds, constants, last_of}
-use Rattle.xoodoo.proofs.Walk.{rounds-next, rounds-end}
 use Rattle.xoodoo.proofs.round.rounds.Given as goal
 
 abbrev pub invariant-loop-i : goal.invariant-loop-i

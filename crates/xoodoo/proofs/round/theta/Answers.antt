@@ -1,5 +1,4 @@
 -- The effect of the parity is added, as defined.
-use borrow.Author.Rules.{rules}
 use Rattle.xoodoo.specs.Xoodoo.{theta}
 use Rattle.xoodoo.proofs.round.theta.Goals as goal
 

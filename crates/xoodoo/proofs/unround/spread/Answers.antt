@@ -1,6 +1,5 @@
 -- The definition, plane by plane.
 use mathlib.Core.Path.{ap₂, ◌∙◌}
-use borrow.Author.Rules.{rules}
 use Rattle.xoodoo.specs.Xoodoo.{◌⊞◌, spread}
 use Rattle.xoodoo.proofs.unround.spread.Goals as goal
 

@@ -1,9 +1,8 @@
 -- The rounds from the i-th constant on are taken back, of the plain state.
 use mathlib.Core.Path.{◌≡◌, refl, sym, ap, ◌∙◌}
-use Prim.Native.Nat.{◌≤◌, ◌-◌, ◌+◌, ◌%◌}
+use Prim.Native.Nat.{◌-◌, ◌+◌}
 use native.Mathlib.Omega.{arith}
 use lib.ListN.{drop, get_or}
-use borrow.Author.Rules.{rules}
 use Rattle.xoodoo.specs.Xoodoo.{unround, unrounds, constants}
 use Rattle.xoodoo.specs.Frame.{not_one, not_two}
 use Rattle.xoodoo.proofs.Planes.{Good}

@@ -1,6 +1,5 @@
 -- The definition's first two steps, and its last three at once.
 use mathlib.Core.Path.{◌≡◌, sym, ap, ap₂, ◌∙◌}
-use borrow.Author.Rules.{rules}
 use Rattle.laws.specs.Words.{rotl}
 use Rattle.xoodoo.specs.Xoodoo.{each, ◌⊞◌, up, ups, step}
 use Rattle.xoodoo.proofs.Known.{known-plane}

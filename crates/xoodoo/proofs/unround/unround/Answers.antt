@@ -1,5 +1,4 @@
 -- The inverse steps in the opposite order.
-use borrow.Author.Rules.{rules}
 use Rattle.xoodoo.specs.Xoodoo.{unround}
 use Rattle.xoodoo.proofs.unround.unround.Goals as goal
 

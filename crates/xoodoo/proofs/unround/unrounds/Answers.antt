@@ -1,9 +1,8 @@
 -- The rounds from the i-th constant on are taken back.
 use mathlib.Core.Path.{◌≡◌, sym, ap, ◌∙◌}
-use Prim.Native.Nat.{◌≤◌, ◌-◌, ◌+◌}
+use Prim.Native.Nat.{◌-◌, ◌+◌}
 use native.Mathlib.Omega.{arith}
 use lib.ListN.{drop, get_or}
-use borrow.Author.Rules.{rules}
 use Rattle.xoodoo.specs.Xoodoo.{unround, unrounds, constants, last_of}
 use Rattle.xoodoo.proofs.Walk.{unrounds-next, unrounds-none}
 use Rattle.xoodoo.proofs.unround.unrounds.Goals as goal

@@ -1,11 +1,8 @@
 -- The rounds from the i-th constant on are taken back.
-use mathlib.Core.Path.{◌≡◌, sym, ap, ◌∙◌}
-use Prim.Native.Nat.{◌≤◌, ◌-◌, ◌+◌}
-use native.Mathlib.Omega.{arith}
-use lib.ListN.{drop, get_or}
-use borrow.Author.Rules.{rules}
-use Rattle.xoodoo.specs.Xoodoo.{unround, unrounds, constants, last_of}
-use Rattle.xoodoo.proofs.Walk.{unrounds-next, unrounds-none}
+use mathlib.Core.Path.{◌≡◌}
+use Prim.Native.Nat.{◌≤◌, ◌-◌}
+use lib.ListN.{drop}
+use Rattle.xoodoo.specs.Xoodoo.{unrounds, constants}
 use Rattle.xoodoo.proofs.unround.unrounds.Given as goal
 
 abbrev pub invariant-loop-i : goal.invariant-loop-i

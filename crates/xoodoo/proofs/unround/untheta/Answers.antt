@@ -1,5 +1,4 @@
 -- The parity's way back is added, as defined.
-use borrow.Author.Rules.{rules}
 use Rattle.xoodoo.specs.Xoodoo.{untheta}
 use Rattle.xoodoo.proofs.unround.untheta.Goals as goal
 

@@ -1,7 +1,6 @@
 -- Adding words adds their bytes.
 use mathlib.Core.Path.{ap₂, ◌∙◌}
 use mathlib.Core.List.{[], ◌∷◌}
-use borrow.Author.Rules.{rules}
 use Rattle.laws.specs.Words.{◌⊕◌}
 use Rattle.xoodoo.specs.Xoodoo.{◌⊞◌, word_bytes, plane_bytes, to_bytes}
 use Rattle.xoodoo.specs.Words.{eleven_bytes}

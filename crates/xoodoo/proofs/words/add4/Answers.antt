@@ -1,7 +1,6 @@
 -- Adding words adds their bytes.
 use mathlib.Core.Path.{ap, ◌∙◌}
 use mathlib.Core.List.{[], ◌∷◌}
-use borrow.Author.Rules.{rules}
 use Rattle.xoodoo.specs.Xoodoo.{◌⊞◌, word_bytes, plane_bytes, to_bytes}
 use Rattle.xoodoo.specs.declared.round.Plane.{Plane}
 use Rattle.xoodoo.proofs.WordBytes.{words_bytes, words-⊕}

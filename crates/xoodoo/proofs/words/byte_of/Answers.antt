@@ -1,6 +1,5 @@
 -- `byte_of` is the code's own form.
 use mathlib.Core.Path.{refl}
-use borrow.Author.Rules.{rules}
 use Rattle.xoodoo.specs.Xoodoo.{byte_of}
 use Rattle.xoodoo.proofs.words.byte_of.Goals as goal
 

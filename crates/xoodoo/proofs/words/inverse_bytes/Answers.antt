@@ -1,6 +1,5 @@
 -- The words before the rounds, put over the bytes that they were read from.
 use mathlib.Core.Path.{◌∙◌}
-use borrow.Author.Rules.{rules}
 use Rattle.xoodoo.proofs.words.inverse_bytes.Goals as goal
 
 pub returns : goal.returns

@@ -1,5 +1,4 @@
 -- The three planes.
-use borrow.Author.Rules.{rules}
 use Rattle.xoodoo.specs.Xoodoo.{from_bytes}
 use Rattle.xoodoo.proofs.words.load.Goals as goal
 

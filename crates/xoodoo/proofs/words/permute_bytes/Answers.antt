@@ -1,6 +1,5 @@
 -- The words after the rounds, put over the bytes that they were read from.
 use mathlib.Core.Path.{◌∙◌}
-use borrow.Author.Rules.{rules}
 use Rattle.xoodoo.proofs.words.permute_bytes.Goals as goal
 
 pub returns : goal.returns

@@ -1,5 +1,4 @@
 -- The words' bytes are permuted where they lie, and read again: the permutation gives bytes.
-use borrow.Author.Rules.{rules}
 use Rattle.xoodoo.proofs.Bytes.{to-bytes, to-from}
 use Rattle.xoodoo.proofs.Inverse.{xoodoo-keeps}
 use Rattle.xoodoo.proofs.words.permute_words.Goals as goal

@@ -1,5 +1,4 @@
 -- The four words from `at` on.
-use borrow.Author.Rules.{rules}
 use Rattle.xoodoo.specs.Xoodoo.{plane_at}
 use Rattle.xoodoo.proofs.words.plane_at.Goals as goal
 

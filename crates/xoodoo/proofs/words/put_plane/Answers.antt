@@ -1,5 +1,4 @@
 -- Four words, one after the other.
-use borrow.Author.Rules.{rules}
 use Rattle.xoodoo.proofs.Bytes.{stored-plane}
 use Rattle.xoodoo.proofs.words.put_plane.Goals as goal
 

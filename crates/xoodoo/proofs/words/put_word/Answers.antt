@@ -2,7 +2,6 @@
 use mathlib.Core.Path.{◌≡◌}
 use Prim.Native.Nat.{suc, ◌+◌}
 use native.Mathlib.Omega.{arith}
-use borrow.Author.Rules.{rules}
 use Rattle.xoodoo.specs.Xoodoo.{word_bytes}
 use Rattle.xoodoo.proofs.words.put_word.Goals as goal
 

@@ -1,6 +1,5 @@
 -- `word_of` is the code's own form, and four bytes do not overflow.
 use mathlib.Core.Path.{refl}
-use borrow.Author.Rules.{rules}
 use Rattle.xoodoo.specs.Xoodoo.{word_of}
 use Rattle.xoodoo.proofs.words.word.Goals as goal
 

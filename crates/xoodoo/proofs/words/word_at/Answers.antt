@@ -1,5 +1,4 @@
 -- The four bytes from `at` on.
-use borrow.Author.Rules.{rules}
 use Rattle.xoodoo.specs.Xoodoo.{word_at}
 use Rattle.xoodoo.proofs.words.word_at.Goals as goal
 

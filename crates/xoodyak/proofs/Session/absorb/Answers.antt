@@ -2,7 +2,6 @@
 use Rattle.xoodyak.specs.Calls.{answer_of, absorb_of}
 use Rattle.xoodyak.proofs.Settle.{answer-taken, answer-refused, absorb-rate-fits}
 use Rattle.xoodyak.proofs.Costs.{absorb-share}
-use borrow.Author.Rules.{rules}
 use Rattle.xoodyak.proofs.Session.absorb.Goals as goal
 
 pub returns-then-number-ne0 : goal.returns-then-number-ne0

@@ -6,7 +6,6 @@ use Rattle.xoodyak.specs.Numbers.{first, keyed_number, key_number}
 use Rattle.xoodyak.specs.Calls.{answer_of, key_of}
 use Rattle.xoodyak.proofs.Costs.{key-share}
 use Rattle.xoodyak.proofs.Settle.{answer-taken, answer-refused, second-zero, key_fits}
-use borrow.Author.Rules.{rules}
 use Rattle.xoodyak.proofs.Session.absorb_key_and_nonce.Goals as goal
 
 pub returns-then-number-ne0 : goal.returns-then-number-ne0

@@ -5,7 +5,6 @@ use Rattle.xoodyak.specs.Numbers.{first, unfinished_number, rate_number}
 use Rattle.xoodyak.specs.Calls.{mode, answer_of, absorb_more_of}
 use Rattle.xoodyak.proofs.Costs.{absorb-more-share}
 use Rattle.xoodyak.proofs.Settle.{answer-taken, answer-refused, second-zero, rate-fits}
-use borrow.Author.Rules.{rules}
 use Rattle.xoodyak.proofs.Session.absorb_more.Goals as goal
 
 pub returns-then-number-ne0 : goal.returns-then-number-ne0

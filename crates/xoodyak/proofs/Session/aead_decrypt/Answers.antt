@@ -1,13 +1,12 @@
 -- All but the last 16 bytes of the input are copied and decrypted; the tag squeezed then decides whether that stands or the whole output becomes zero.
 use mathlib.Core.Path.{◌≡◌, refl, sym, ap, ap₂, ◌∙◌}
-use mathlib.Core.List.{List, ◌++◌}
-use Prim.Native.Nat.{ℕ, ◌-◌, ◌≤◌}
+use mathlib.Core.List.{◌++◌}
+use Prim.Native.Nat.{◌-◌, ◌≤◌}
 use native.Mathlib.Omega.{arith}
 use lib.ListN.{length, replicate, drop, take, length-drop, length-replicate, length-take}
 use lib.Seq.{length-take-le, take_all}
 use native.Mathlib.Nat.{le_refl}
 use borrow.Author.Rules.{rules}
-use Rattle.xoodyak.specs.declared.Session.{Session}
 use Rattle.xoodyak.specs.Numbers.{first, keyed_number, room_number, tail_number}
 use Rattle.xoodyak.specs.Calls.{Outcome, answer_of, verdict, open_of, open_ups}
 use Rattle.xoodyak.proofs.Costs.{open-cost}

@@ -1,12 +1,11 @@
 -- The ciphertext is copied and decrypted at the front; the tag squeezed then decides whether that stands or the whole output becomes zero.
 use mathlib.Core.Path.{◌≡◌, refl, sym, ap, ap₂, ◌∙◌}
-use mathlib.Core.List.{List, ◌++◌}
+use mathlib.Core.List.{◌++◌}
 use Prim.Native.Nat.{ℕ, ◌≤◌}
 use native.Mathlib.Omega.{arith}
 use lib.ListN.{length, replicate, drop, take}
 use lib.Seq.{length-take-le}
 use borrow.Author.Rules.{rules}
-use Rattle.xoodyak.specs.declared.Session.{Session}
 use Rattle.xoodyak.specs.Cyclist.{given}
 use Rattle.xoodyak.specs.Numbers.{first, keyed_number, room_number}
 use Rattle.xoodyak.specs.Calls.{Outcome, answer_of, verdict, open_detached_of, open_ups}

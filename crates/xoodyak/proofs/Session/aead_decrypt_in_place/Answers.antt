@@ -1,12 +1,11 @@
 -- All but the last 16 bytes are decrypted where they lie; the tag squeezed then decides whether that stands or they become zero.
 use mathlib.Core.Path.{◌≡◌, refl, sym, ap, ap₂, ◌∙◌}
-use mathlib.Core.List.{List, ◌++◌}
-use Prim.Native.Nat.{ℕ, ◌-◌, ◌≤◌}
+use mathlib.Core.List.{◌++◌}
+use Prim.Native.Nat.{◌-◌, ◌≤◌}
 use native.Mathlib.Omega.{arith}
 use lib.ListN.{length, replicate, drop, take, length-append, length-drop, length-take}
 use lib.Seq.{length-take-le}
 use borrow.Author.Rules.{rules}
-use Rattle.xoodyak.specs.declared.Session.{Session}
 use Rattle.xoodyak.specs.Numbers.{first, keyed_number, tail_number}
 use Rattle.laws.proofs.Lists.{tail_of}
 use Rattle.xoodyak.specs.Calls.{Outcome, answer_of, verdict, open_in_place_of, open_ups}

@@ -1,14 +1,12 @@
 -- The message is copied and encrypted at the front, and the tag squeezed into the 16 bytes after it.
 use mathlib.Core.Path.{◌≡◌, refl, sym, ap, ap₂, ◌∙◌}
-use mathlib.Core.List.{List}
-use Prim.Native.Nat.{ℕ, ◌+◌, ◌≤◌}
+use Prim.Native.Nat.{◌+◌, ◌≤◌}
 use native.Mathlib.Omega.{arith}
 use lib.ListN.{length, take, length-append, length-drop, length-take}
 use lib.Seq.{length-take-le}
 use borrow.Author.Rules.{rules}
-use Rattle.xoodyak.specs.declared.Session.{Session}
 use Rattle.xoodyak.specs.Numbers.{first, keyed_number, room_number}
-use Rattle.xoodyak.specs.Calls.{Outcome, answer_of, taken, seal_of}
+use Rattle.xoodyak.specs.Calls.{Outcome, answer_of, seal_of}
 use Rattle.xoodyak.proofs.Costs.{seal-cost}
 use Rattle.xoodyak.proofs.Settle.{room-refused, copied-front}
 use Rattle.xoodyak.proofs.Sealing.{fits, seal-copy}

@@ -1,12 +1,10 @@
 -- The message is copied and encrypted at the front, and the tag squeezed into an array of its own.
 use mathlib.Core.Path.{◌≡◌, refl, sym, ap, ap₂, ◌∙◌}
-use mathlib.Core.List.{List}
-use Prim.Native.Nat.{ℕ, ◌≤◌}
+use Prim.Native.Nat.{◌≤◌}
 use native.Mathlib.Omega.{arith}
 use lib.ListN.{length, take}
 use lib.Seq.{length-take-le}
 use borrow.Author.Rules.{rules}
-use Rattle.xoodyak.specs.declared.Session.{Session}
 use Rattle.xoodyak.specs.Numbers.{first, keyed_number, room_number}
 use Rattle.xoodyak.specs.Calls.{Outcome, sealed_of, seal_detached_of}
 use Rattle.xoodyak.proofs.Costs.{seal-cost}

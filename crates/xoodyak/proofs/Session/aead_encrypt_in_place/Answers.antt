@@ -1,12 +1,10 @@
 -- All but the last 16 bytes are encrypted where they lie, and the tag squeezed into those.
 use mathlib.Core.Path.{◌≡◌, refl, sym, ap, ap₂, ◌∙◌}
-use mathlib.Core.List.{List}
-use Prim.Native.Nat.{ℕ, ◌-◌, ◌≤◌}
+use Prim.Native.Nat.{◌-◌, ◌≤◌}
 use native.Mathlib.Omega.{arith}
 use lib.ListN.{length, take, length-append, length-drop, length-take}
 use lib.Seq.{length-take-le}
 use borrow.Author.Rules.{rules}
-use Rattle.xoodyak.specs.declared.Session.{Session}
 use Rattle.xoodyak.specs.Numbers.{first, keyed_number, tail_number}
 use Rattle.xoodyak.specs.Calls.{Outcome, answer_of, seal_in_place_of}
 use Rattle.xoodyak.proofs.Costs.{seal-cost}

@@ -1,6 +1,5 @@
 -- The buffer is encrypted where it lies, and the tag squeezed into an array of its own.
 use mathlib.Core.Path.{ap, ◌∙◌}
-use borrow.Author.Rules.{rules}
 use Rattle.xoodyak.specs.Calls.{Outcome, sealed_of, seal_in_place_detached_of}
 use Rattle.xoodyak.proofs.Costs.{seal-cost}
 use Rattle.xoodyak.proofs.Settle.{call-refused}

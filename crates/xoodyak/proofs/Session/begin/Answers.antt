@@ -2,7 +2,6 @@
 use Rattle.xoodyak.specs.Calls.{answer_of}
 use Rattle.xoodyak.specs.Feed.{begin_of}
 use Rattle.xoodyak.proofs.Settle.{answer-taken, answer-refused}
-use borrow.Author.Rules.{rules}
 use Rattle.xoodyak.proofs.Session.begin.Goals as goal
 
 pub returns-then-number-ne0 : goal.returns-then-number-ne0

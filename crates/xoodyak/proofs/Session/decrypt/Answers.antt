@@ -8,7 +8,6 @@ use Rattle.xoodyak.specs.Numbers.{first, keyed_number, room_number}
 use Rattle.xoodyak.specs.Calls.{Outcome, answer_of, decrypt_of}
 use Rattle.xoodyak.proofs.Costs.{decrypt-cost}
 use Rattle.xoodyak.proofs.Settle.{call-taken, room-refused, second-zero, room_fits, copied-front, copied-rest}
-use borrow.Author.Rules.{rules}
 use Rattle.laws.proofs.Clauses.{as_value_and_out_after}
 use Rattle.xoodyak.proofs.Session.decrypt.Goals as goal
 

@@ -3,7 +3,6 @@ use mathlib.Core.Path.{sym, ◌∙◌}
 use Rattle.xoodyak.specs.Cyclist.{dec_end, dec_out}
 use Rattle.xoodyak.specs.Calls.{decrypt_end, decrypt_out}
 use Rattle.xoodyak.proofs.Message.{message-empty, message-cuts}
-use borrow.Author.Rules.{rules}
 use Rattle.xoodyak.proofs.Session.decrypt_message.Goals as goal
 
 pub returns-then-is_empty_block : goal.returns-then-is_empty_block

@@ -8,7 +8,6 @@ use Rattle.xoodyak.specs.Numbers.{first, keyed_number, room_number}
 use Rattle.xoodyak.specs.Calls.{Outcome, answer_of, encrypt_of}
 use Rattle.xoodyak.proofs.Costs.{encrypt-cost}
 use Rattle.xoodyak.proofs.Settle.{call-taken, room-refused, second-zero, room_fits, copied-front, copied-rest}
-use borrow.Author.Rules.{rules}
 use Rattle.laws.proofs.Clauses.{as_value_and_out_after}
 use Rattle.xoodyak.proofs.Session.encrypt.Goals as goal
 

@@ -2,7 +2,6 @@
 use Rattle.xoodyak.specs.Calls.{answer_of, encrypt_in_place_of}
 use Rattle.xoodyak.proofs.Settle.{call-taken, call-refused}
 use Rattle.xoodyak.proofs.Costs.{encrypt-cost}
-use borrow.Author.Rules.{rules}
 use Rattle.laws.proofs.Clauses.{as_value_and_in_out_after}
 use Rattle.xoodyak.proofs.Session.encrypt_in_place.Goals as goal
 

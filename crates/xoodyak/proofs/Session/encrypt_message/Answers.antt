@@ -3,7 +3,6 @@ use mathlib.Core.Path.{sym, ◌∙◌}
 use Rattle.xoodyak.specs.Cyclist.{enc_end, enc_out}
 use Rattle.xoodyak.specs.Calls.{encrypt_end, encrypt_out}
 use Rattle.xoodyak.proofs.Message.{message-empty, message-cuts}
-use borrow.Author.Rules.{rules}
 use Rattle.xoodyak.proofs.Session.encrypt_message.Goals as goal
 
 pub returns-then-is_empty_block : goal.returns-then-is_empty_block

@@ -1,9 +1,7 @@
 -- Refused with nothing touched; otherwise the duplex is fed from the message's place, and the session keeps where that stands.
 use mathlib.Core.Path.{◌≡◌, sym, ap, ap₂, ◌∙◌}
-use mathlib.Core.List.{List}
 use Prim.Native.Nat.{ℕ, ◌≤◌}
 use lib.ListN.{length}
-use Rattle.xoodyak.specs.declared.Session.{Session}
 use Rattle.xoodyak.specs.Numbers.{first, kind_number, mode_number, room_number, missing}
 use Rattle.xoodyak.specs.Calls.{mode}
 use Rattle.xoodyak.specs.Feed.{Portion, fed_of, feed_of}

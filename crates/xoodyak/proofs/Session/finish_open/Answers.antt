@@ -1,7 +1,6 @@
 -- Refused with nothing touched; otherwise the session past the tag, and the comparison says which number.
 use mathlib.Core.Path.{◌≡◌, refl, sym, ap, ap₂, ◌∙◌}
 use lib.ListN.{length}
-use Rattle.xoodyak.specs.declared.Session.{Session}
 use Rattle.xoodyak.specs.declared.feed.Kind.TheVariants.{Open}
 use Rattle.xoodyak.specs.declared.feed.Finished.{Finished}
 use Rattle.xoodyak.specs.Numbers.{first, kind_number, mode_number}

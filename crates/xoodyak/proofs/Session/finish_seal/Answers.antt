@@ -1,12 +1,10 @@
 -- Refused with nothing touched and a tag of zeros; otherwise the session past the tag, with the tag.
 use mathlib.Core.Path.{◌≡◌, refl, ap, ap₂, ◌∙◌}
-use Rattle.xoodyak.specs.declared.Session.{Session}
 use Rattle.xoodyak.specs.declared.feed.Kind.TheVariants.{Seal}
 use Rattle.xoodyak.specs.Numbers.{first, kind_number, mode_number}
 use Rattle.xoodyak.specs.Calls.{mode}
 use Rattle.xoodyak.specs.Feed.{finished_of, finish_seal_of}
 use Rattle.xoodyak.proofs.Feeding.{portion-taken, portion-denied}
-use borrow.Author.Rules.{rules}
 use Rattle.xoodyak.proofs.Session.finish_seal.Goals as goal
 
 pub returns-then-number-ne0 : goal.returns-then-number-ne0

@@ -2,7 +2,6 @@
 use native.Mathlib.Omega.{arith}
 use Rattle.xoodyak.specs.Feed.{finish_ups}
 use Rattle.xoodyak.proofs.Feeding.{ups-few}
-use borrow.Author.Rules.{rules}
 use Rattle.xoodyak.proofs.Session.finish_ups.Goals as goal
 
 pub overflow_add-result : goal.overflow_add-result

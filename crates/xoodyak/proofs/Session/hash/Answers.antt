@@ -1,5 +1,4 @@
 -- A fresh state in Hash mode, with no message begun.
-use borrow.Author.Rules.{rules}
 use Rattle.xoodyak.proofs.Session.hash.Goals as goal
 
 pub returns : goal.returns

@@ -1,5 +1,4 @@
 -- Both rules, as the definition goes by them.
-use borrow.Author.Rules.{rules}
 use Rattle.xoodyak.proofs.Session.is_empty_block.Goals as goal
 
 pub returns-in-Specification : goal.returns-in-Specification

@@ -1,6 +1,5 @@
 -- 7 before 1.
 use Rattle.xoodyak.specs.Numbers.{keyed_number}
-use borrow.Author.Rules.{rules}
 use Rattle.xoodyak.proofs.Session.keyed_number.Goals as goal
 
 pub returns : goal.returns

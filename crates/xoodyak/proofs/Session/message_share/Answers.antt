@@ -1,6 +1,5 @@
 -- Under the specification an empty message is one block.
 use Rattle.xoodyak.specs.Shares.{message_share}
-use borrow.Author.Rules.{rules}
 use Rattle.xoodyak.proofs.Session.message_share.Goals as goal
 
 pub returns-in-Crate : goal.returns-in-Crate

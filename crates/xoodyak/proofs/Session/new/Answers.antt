@@ -6,7 +6,6 @@ use Rattle.xoodyak.specs.Numbers.{key_number}
 use Rattle.xoodyak.specs.Calls.{answer_of, new_of}
 use Rattle.xoodyak.proofs.Costs.{key-share}
 use Rattle.xoodyak.proofs.Settle.{answer-taken, answer-refused, key_fits}
-use borrow.Author.Rules.{rules}
 use Rattle.xoodyak.proofs.Session.new.Goals as goal
 
 pub returns-then-number-ne0 : goal.returns-then-number-ne0

@@ -1,7 +1,6 @@
 -- The end of the message, then a squeeze of 16 bytes with colour 40, since the lent part is 16 long.
 use mathlib.Core.Path.{◌∙◌}
 use Rattle.xoodyak.specs.Feed.{ended, past_tag}
-use borrow.Author.Rules.{rules}
 use Rattle.xoodyak.proofs.Session.past_tag.Goals as goal
 
 pub returns : goal.returns

@@ -2,7 +2,6 @@
 use Rattle.xoodyak.specs.Calls.{answer_of, ratchet_of}
 use Rattle.xoodyak.proofs.Settle.{answer-taken, answer-refused, keyed-mode}
 use Rattle.xoodyak.proofs.Costs.{ratchet-share}
-use borrow.Author.Rules.{rules}
 use Rattle.xoodyak.proofs.Session.ratchet.Goals as goal
 
 pub returns-then-number-ne0 : goal.returns-then-number-ne0

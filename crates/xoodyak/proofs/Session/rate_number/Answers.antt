@@ -1,7 +1,6 @@
 -- A rate is refused where it is 0, or above what `absorb_rate` answers.
 use native.Mathlib.Omega.{arith}
 use Rattle.xoodyak.proofs.Settle.{rate-none, rate-over, rate-within}
-use borrow.Author.Rules.{rules}
 use Rattle.xoodyak.proofs.Session.rate_number.Goals as goal
 
 pub returns-then-rate-eq0 : goal.returns-then-rate-eq0

@@ -3,7 +3,6 @@ use lib.ListN.{length}
 use Rattle.xoodyak.specs.Calls.{answer_of, squeeze_of}
 use Rattle.xoodyak.proofs.Settle.{call-taken, call-refused}
 use Rattle.xoodyak.proofs.Costs.{squeeze-share}
-use borrow.Author.Rules.{rules}
 use Rattle.laws.proofs.Clauses.{as_value_and_out_after}
 use Rattle.xoodyak.proofs.Session.squeeze_key.Goals as goal
 

@@ -4,7 +4,6 @@ use Rattle.xoodyak.specs.Calls.{answer_of, squeeze_more_of}
 use Rattle.xoodyak.proofs.Settle.{call-taken, call-refused}
 use Rattle.xoodyak.proofs.Turns.{rate-pos}
 use Rattle.xoodyak.proofs.Costs.{squeeze-more-share}
-use borrow.Author.Rules.{rules}
 use Rattle.laws.proofs.Clauses.{as_value_and_out_after}
 use Rattle.xoodyak.proofs.Session.squeeze_more.Goals as goal
 

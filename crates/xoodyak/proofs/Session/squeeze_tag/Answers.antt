@@ -1,5 +1,4 @@
 -- The tag is what a squeeze of 16 bytes with colour 40 gives, since the lent part is 16 long.
-use borrow.Author.Rules.{rules}
 use mathlib.Core.Path.{◌∙◌}
 use Rattle.xoodyak.specs.Calls.{tag_end, tag_out}
 use Rattle.xoodyak.proofs.Session.squeeze_tag.Goals as goal

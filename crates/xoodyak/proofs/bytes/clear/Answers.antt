@@ -1,9 +1,8 @@
 -- After i turns the front i bytes are zero and the rest is as it was.
 use mathlib.Core.Path.{◌≡◌, refl, ◌∙◌}
-use mathlib.Core.List.{◌++◌, append-nil}
-use Prim.Native.Nat.{◌-◌, ◌≤◌}
+use mathlib.Core.List.{append-nil}
 use native.Mathlib.Omega.{arith}
-use lib.ListN.{length, drop, replicate, length-set}
+use lib.ListN.{length, length-set}
 use lib.Seq.{drop-length}
 use borrow.Author.Fill.{fill_more}
 use Rattle.xoodyak.proofs.bytes.clear.Goals as goal

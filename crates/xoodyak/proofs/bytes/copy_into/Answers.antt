@@ -1,10 +1,8 @@
 -- After i turns dst is the front i bytes of src, then what dst held past them; a turn copies one byte more.
 use mathlib.Core.Path.{◌≡◌, refl, ◌∙◌}
-use Prim.Native.Nat.{◌-◌, ◌≤◌}
 use native.Mathlib.Numerals.{add-one}
 use native.Mathlib.Omega.{arith}
-use lib.ListN.{length, take, drop, length-set}
-use mathlib.Core.List.{◌++◌}
+use lib.ListN.{length, length-set}
 use lib.Seq.{take-length}
 use Rattle.laws.proofs.Lists.{copy_step}
 use Rattle.xoodyak.proofs.bytes.copy_into.Goals as goal

@@ -1,12 +1,8 @@
 -- After i turns dst is the front i bytes of src, then what dst held past them; a turn copies one byte more.
-use mathlib.Core.Path.{◌≡◌, refl, ◌∙◌}
+use mathlib.Core.Path.{◌≡◌}
 use Prim.Native.Nat.{◌-◌, ◌≤◌}
-use native.Mathlib.Numerals.{add-one}
-use native.Mathlib.Omega.{arith}
-use lib.ListN.{length, take, drop, length-set}
+use lib.ListN.{length, take, drop}
 use mathlib.Core.List.{◌++◌}
-use lib.Seq.{take-length}
-use Rattle.laws.proofs.Lists.{copy_step}
 use Rattle.xoodyak.proofs.bytes.copy_into.Given as goal
 
 abbrev pub invariant-loop-i : goal.invariant-loop-i

@@ -1,13 +1,8 @@
 -- After i turns the front i bytes of src are added to dst; a turn adds one byte more.
-use mathlib.Core.Path.{◌≡◌, refl, sym, ◌∙◌}
+use mathlib.Core.Path.{◌≡◌}
 use Prim.Native.Nat.{◌-◌, ◌≤◌}
-use native.Mathlib.Numerals.{add-one}
-use native.Mathlib.Omega.{arith}
-use lib.ListN.{length, take, length-set}
-use lib.Seq.{take_all}
-use Rattle.laws.specs.Words.{◌⊕◌}
+use lib.ListN.{length, take}
 use Rattle.laws.specs.Lists.{add_front}
-use Rattle.laws.proofs.Lists.{add_front-nil, add_front-step}
 use Rattle.xoodyak.proofs.bytes.xor_into.Given as goal
 
 abbrev pub invariant-loop-i : goal.invariant-loop-i

@@ -1,16 +1,13 @@
 -- The bytes written, then what the rest gives from the words now, are what the whole gives from the start.
 use mathlib.Core.Path.{◌≡◌, refl, sym, ap, ◌∙◌}
-use mathlib.Core.List.{◌++◌}
-use Prim.Native.Nat.{◌+◌, ◌-◌, ◌≤◌, ◌<◌}
+use Prim.Native.Nat.{◌+◌, ◌-◌, ◌<◌}
 use native.Mathlib.Nat.{sub-zero}
 use native.Mathlib.Omega.{arith}
 use lib.ListN.{length, take, drop, length-take}
-use borrow.Author.Rules.{rules}
 use borrow.Rule.Slice.PartMut.{same_len_mid}
-use Rattle.laws.specs.Blocks.{sizes}
 use Rattle.laws.proofs.Lists.{length-mid}
 use Rattle.xoodoo.specs.Xoodoo.{to_bytes}
-use Rattle.xoodyak.specs.Cyclist.{next, nexts_end, nexts_out}
+use Rattle.xoodyak.specs.Cyclist.{next}
 use Rattle.xoodyak.specs.declared.cyclist.Mode.{Mode}
 use Rattle.xoodyak.specs.declared.cyclist.Phase.TheVariants.{Up}
 use Rattle.xoodyak.proofs.BlockWords.{held, next-is}

@@ -1,7 +1,6 @@
 -- At place 0 the rule decides; a message with bytes needs no further Up.
 use Rattle.xoodyak.specs.Feed.{end_ups}
 use Rattle.xoodyak.proofs.Feeding.{ups-later}
-use borrow.Author.Rules.{rules}
 use Rattle.xoodyak.proofs.feed.end_ups.Goals as goal
 
 pub returns-in-Crate : goal.returns-in-Crate

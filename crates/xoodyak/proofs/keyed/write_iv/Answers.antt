@@ -8,7 +8,6 @@ use lib.Seq.{length-take-le, length_front}
 use borrow.Rule.Slice.PartMut.{put_mid, same_len_mid}
 use Rattle.xoodyak.proofs.Turns.{iv-is}
 use Rattle.laws.proofs.Lists.{whole}
-use borrow.Author.Rules.{rules}
 use Rattle.xoodyak.proofs.keyed.write_iv.Goals as goal
 
 pub slice_bounds-copy_into-end-2 : goal.slice_bounds-copy_into-end-2

@@ -1,7 +1,6 @@
 -- A first number that is not 0 is the first refusal.
 use mathlib.Core.Path.{sym}
 use Rattle.xoodyak.proofs.Settle.{first-other}
-use borrow.Author.Rules.{rules}
 use Rattle.xoodyak.proofs.numbers.first.Goals as goal
 
 pub returns-else-a-eq0 : goal.returns-else-a-eq0

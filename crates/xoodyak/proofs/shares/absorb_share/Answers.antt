@@ -1,6 +1,5 @@
 -- One for each block, less one in phase Up.
 use Rattle.xoodyak.specs.Shares.{absorb_share}
-use borrow.Author.Rules.{rules}
 use Rattle.xoodyak.proofs.shares.absorb_share.Goals as goal
 
 pub returns-in-Up : goal.returns-in-Up

@@ -3,7 +3,6 @@ use Prim.Native.Nat.{◌-◌}
 use native.Mathlib.Nat.{div-le_self}
 use native.Mathlib.Omega.{arith}
 use Rattle.xoodyak.proofs.Costs.{count-is, count_none}
-use borrow.Author.Rules.{rules}
 use Rattle.xoodyak.proofs.shares.block_count.Goals as goal
 
 pub returns-then-n-eq0 : goal.returns-then-n-eq0

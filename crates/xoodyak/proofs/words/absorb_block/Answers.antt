@@ -3,7 +3,6 @@ use mathlib.Core.Path.{◌≡◌, ◌∙◌}
 use native.Mathlib.Omega.{arith}
 use lib.ListN.{length}
 use lib.Seq.{take_all}
-use borrow.Author.Rules.{rules}
 use Rattle.xoodyak.proofs.words.absorb_block.Goals as goal
 
 pub returns-then-n-eq44 : goal.returns-then-n-eq44

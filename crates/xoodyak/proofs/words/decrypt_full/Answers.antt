@@ -2,7 +2,6 @@
 use lib.Dec.{lit≤}
 use Rattle.xoodoo.proofs.Bytes.{to-bytes}
 use Rattle.xoodyak.proofs.BlockWords.{decrypted-end, met-out}
-use borrow.Author.Rules.{rules}
 use Rattle.xoodyak.proofs.words.decrypt_full.Goals as goal
 
 pub returns : goal.returns

@@ -4,7 +4,6 @@ use native.Mathlib.Omega.{arith}
 use lib.ListN.{length}
 use lib.Seq.{take_all}
 use Rattle.laws.specs.Words.{◌⊕◌}
-use borrow.Author.Rules.{rules}
 use Rattle.xoodyak.proofs.words.down_words.Goals as goal
 
 pub returns-then-n-eq44 : goal.returns-then-n-eq44

@@ -1,6 +1,5 @@
 -- Four words, one after the other.
 use Rattle.xoodoo.proofs.BlockBytes.{plane-of}
-use borrow.Author.Rules.{rules}
 use Rattle.xoodyak.proofs.words.get16.Goals as goal
 
 pub returns : goal.returns

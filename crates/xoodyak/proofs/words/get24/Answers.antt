@@ -1,7 +1,6 @@
 -- Six words, one after the other.
 use native.Mathlib.Omega.{arith}
 use Rattle.xoodoo.proofs.BlockBytes.{six-of}
-use borrow.Author.Rules.{rules}
 use Rattle.xoodyak.proofs.words.get24.Goals as goal
 
 pub returns : goal.returns

@@ -2,7 +2,6 @@
 use mathlib.Core.Path.{sym, ◌∙◌}
 use native.Mathlib.Omega.{arith}
 use Rattle.xoodoo.proofs.BlockBytes.{four-at}
-use borrow.Author.Rules.{rules}
 use Rattle.xoodyak.proofs.words.get4.Goals as goal
 
 pub returns : goal.returns

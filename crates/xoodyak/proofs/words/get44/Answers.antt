@@ -1,7 +1,6 @@
 -- Two planes and three words, one after the other.
 use native.Mathlib.Omega.{arith}
 use Rattle.xoodoo.proofs.BlockBytes.{eleven-of}
-use borrow.Author.Rules.{rules}
 use Rattle.xoodyak.proofs.words.get44.Goals as goal
 
 pub returns : goal.returns

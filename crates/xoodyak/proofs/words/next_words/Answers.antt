@@ -2,7 +2,6 @@
 use mathlib.Core.Path.{ap, ◌∙◌}
 use Rattle.xoodoo.specs.Xoodoo.{to_bytes, xoodoo}
 use Rattle.xoodyak.proofs.BlockWords.{one-first}
-use borrow.Author.Rules.{rules}
 use Rattle.xoodyak.proofs.words.next_words.Goals as goal
 
 pub returns : goal.returns

@@ -1,7 +1,6 @@
 -- Four words fill the 16 bytes.
 use native.Mathlib.Omega.{arith}
 use Rattle.xoodoo.proofs.BlockBytes.{put-plane}
-use borrow.Author.Rules.{rules}
 use Rattle.xoodyak.proofs.words.put16.Goals as goal
 
 pub returns : goal.returns

@@ -1,7 +1,6 @@
 -- Six words fill the 24 bytes.
 use native.Mathlib.Omega.{arith}
 use Rattle.xoodoo.proofs.BlockBytes.{put_six}
-use borrow.Author.Rules.{rules}
 use Rattle.xoodyak.proofs.words.put24.Goals as goal
 
 pub returns : goal.returns

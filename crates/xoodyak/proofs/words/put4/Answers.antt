@@ -4,7 +4,6 @@ use Prim.Native.Nat.{suc, ◌+◌}
 use native.Mathlib.Omega.{arith}
 use lib.ListN.{length-set}
 use Rattle.xoodoo.proofs.BlockBytes.{bytes_of}
-use borrow.Author.Rules.{rules}
 use Rattle.xoodyak.proofs.words.put4.Goals as goal
 
 pub bounds-b-at-2 : goal.bounds-b-at-2

@@ -2,7 +2,6 @@
 use Prim.Native.Nat.{◌<◌}
 use native.Mathlib.Omega.{arith}
 use Rattle.xoodoo.proofs.BlockBytes.{word-of}
-use borrow.Author.Rules.{rules}
 use Rattle.xoodyak.proofs.words.word.Goals as goal
 
 pub returns : goal.returns

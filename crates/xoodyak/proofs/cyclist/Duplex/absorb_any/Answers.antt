@@ -7,7 +7,6 @@ use lib.ListN.{length, drop, length-drop, length-take}
 use lib.Seq.{length-take-le}
 use Rattle.xoodyak.proofs.Turns.{absorb-is}
 use Rattle.xoodyak.specs.Cyclist.{absorb_more}
-use borrow.Author.Rules.{rules}
 use Rattle.xoodyak.proofs.cyclist.Duplex.absorb_any.Goals as goal
 
 pub slice_bounds-down-end : goal.slice_bounds-down-end

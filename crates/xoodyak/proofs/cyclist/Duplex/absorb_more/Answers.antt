@@ -1,9 +1,8 @@
 -- What is left of the input, absorbed from the words now, gives what the whole gives from the start.
-use mathlib.Core.Path.{◌≡◌, refl, sym, ap, ◌∙◌}
-use Prim.Native.Nat.{◌+◌, ◌-◌, ◌≤◌}
+use mathlib.Core.Path.{refl, sym, ap, ◌∙◌}
+use Prim.Native.Nat.{◌+◌}
 use native.Mathlib.Omega.{arith}
-use lib.ListN.{length, drop, length-take}
-use borrow.Author.Rules.{rules}
+use lib.ListN.{length-take}
 use Rattle.laws.specs.Blocks.{cuts}
 use Rattle.xoodoo.specs.Xoodoo.{to_bytes}
 use Rattle.xoodyak.specs.Cyclist.{absorb_more, more_blocks}

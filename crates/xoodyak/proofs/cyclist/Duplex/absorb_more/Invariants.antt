@@ -1,15 +1,12 @@
 -- What is left of the input, absorbed from the words now, gives what the whole gives from the start.
-use mathlib.Core.Path.{◌≡◌, refl, sym, ap, ◌∙◌}
-use Prim.Native.Nat.{◌+◌, ◌-◌, ◌≤◌}
-use native.Mathlib.Omega.{arith}
-use lib.ListN.{length, drop, length-take}
-use borrow.Author.Rules.{rules}
+use mathlib.Core.Path.{◌≡◌}
+use Prim.Native.Nat.{◌-◌, ◌≤◌}
+use lib.ListN.{length, drop}
 use Rattle.laws.specs.Blocks.{cuts}
 use Rattle.xoodoo.specs.Xoodoo.{to_bytes}
-use Rattle.xoodyak.specs.Cyclist.{absorb_more, more_blocks}
+use Rattle.xoodyak.specs.Cyclist.{more_blocks}
 use Rattle.xoodyak.specs.declared.cyclist.Phase.TheVariants.{Down}
 use Rattle.xoodyak.proofs.BlockWords.{held}
-use Rattle.xoodyak.proofs.Turns.{more-start, more_turn, more-done}
 use Rattle.xoodyak.proofs.cyclist.Duplex.absorb_more.Given as goal
 
 abbrev pub invariant-loop-i : goal.invariant-loop-i

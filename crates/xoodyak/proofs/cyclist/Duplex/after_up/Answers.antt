@@ -2,7 +2,6 @@
 use mathlib.Core.Path.{ap}
 use Rattle.xoodyak.specs.declared.cyclist.Phase.TheVariants.{Up}
 use Rattle.xoodyak.proofs.BlockWords.{held}
-use borrow.Author.Rules.{rules}
 use Rattle.xoodyak.proofs.cyclist.Duplex.after_up.Goals as goal
 
 pub returns : goal.returns

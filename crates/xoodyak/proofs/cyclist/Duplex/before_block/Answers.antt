@@ -4,7 +4,6 @@ use Rattle.xoodoo.specs.Xoodoo.{xoodoo}
 use Rattle.xoodyak.specs.Cyclist.{up, up_bytes}
 use Rattle.xoodyak.specs.Feed.{open_block}
 use Rattle.xoodyak.proofs.Runs.{open-later}
-use borrow.Author.Rules.{rules}
 use Rattle.xoodyak.proofs.cyclist.Duplex.before_block.Goals as goal
 
 pub returns-then-place-eq0 : goal.returns-then-place-eq0

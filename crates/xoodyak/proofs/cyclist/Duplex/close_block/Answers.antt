@@ -1,7 +1,6 @@
 -- Byte `least(place, 24)` of the 48 gains 1.
 use Rattle.laws.specs.Words.{◌⊕◌}
 use Rattle.xoodyak.specs.Feed.{close_block}
-use borrow.Author.Rules.{rules}
 use Rattle.xoodyak.proofs.cyclist.Duplex.close_block.Goals as goal
 
 pub returns : goal.returns

@@ -1,6 +1,5 @@
 -- In Hash the words are the state's own; in Keyed byte 47 gains the colour.
 use mathlib.Core.Path.{◌∙◌}
-use borrow.Author.Rules.{rules}
 use Rattle.xoodyak.proofs.cyclist.Duplex.coloured.Goals as goal
 
 pub returns-in-Hash : goal.returns-in-Hash

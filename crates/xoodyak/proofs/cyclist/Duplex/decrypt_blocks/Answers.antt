@@ -4,7 +4,6 @@ use mathlib.Core.List.{◌++◌}
 use Prim.Native.Nat.{◌+◌, ◌-◌, ◌≤◌, ◌<◌, min}
 use native.Mathlib.Omega.{arith}
 use lib.ListN.{length, take, drop, length-take, length-drop}
-use borrow.Author.Rules.{rules}
 use borrow.Rule.Slice.PartMut.{put_mid, same_len_mid}
 use Rattle.laws.specs.Blocks.{cuts}
 use Rattle.laws.specs.Lists.{add_front}
@@ -88,8 +87,8 @@ shape_of-buf c =
     let x = c.loop-i.buf in
     let n = length c.args.buf.now in
     elim c.if-i-n.branch [
-      then-i-n w ↦ ap length w.buf-is ∙ same_len_mid i (n - i) x w.decrypt_block-v.new.buf w.decrypt_block-v.auto.buf ∙ c.loop-i.invariant.1
-    | else-i-n w ↦ ap length w.buf-is ∙ c.loop-i.invariant.1
+      | then-i-n w ↦ ap length w.buf-is ∙ same_len_mid i (n - i) x w.decrypt_block-v.new.buf w.decrypt_block-v.auto.buf ∙ c.loop-i.invariant.1
+      | else-i-n w ↦ ap length w.buf-is ∙ c.loop-i.invariant.1
     ]
 
 pub returns : goal.returns
@@ -101,29 +100,32 @@ returns c =
     let s = to_bytes c.loop-i.v in
     let n = length c.args.buf.now in
     elim c.if-i-n.branch [
-      then-i-n w ↦
-    let b = w.decrypt_block-v in
-    let y = b.new.buf in
-    let z = put_mid i (n - i) x y in
-    let t = to_bytes b.result in
-    let h : i < length x = omega arith in
-    let q : n ≡ i + min 24 (length x - i) = omega arith in
-    let k : length z ≡ length x = same_len_mid i (n - i) x y b.auto.buf in
-    let g : length z ≤ n = omega arith in (
-      ap (λ v. held Down m (to_bytes v)) w.v-is ∙ sym (crypt-done-end dec_end dec_out add_front length-add_front (λ cu d. refl) (λ cu d. refl) (λ b bs cu d. refl) (λ b bs cu d. refl) n 0 z (held Down m t) g)
-          ∙ crypt-turn-end dec_end dec_out add_front length-add_front (λ cu d. refl) (λ cu d. refl) (λ b bs cu d. refl) (λ b bs cu d. refl) m i n x y s t h q b.ensures.result_value b.ensures.buf_after,
-      w.buf-is ∙ sym (crypt-done-out dec_end dec_out add_front length-add_front (λ cu d. refl) (λ cu d. refl) (λ b bs cu d. refl) (λ b bs cu d. refl) n 0 z (held Down m t) g)
-          ∙ crypt-turn-out dec_end dec_out add_front length-add_front (λ cu d. refl) (λ cu d. refl) (λ b bs cu d. refl) (λ b bs cu d. refl) m i n x y s t h q b.ensures.result_value b.ensures.buf_after,
-    )
-    | else-i-n w ↦
-    let g : length x ≤ i = omega arith in (
-      ap (λ v. held Down m (to_bytes v)) w.v-is ∙ sym (crypt-done-end dec_end dec_out add_front length-add_front (λ cu d. refl) (λ cu d. refl) (λ b bs cu d. refl) (λ b bs cu d. refl) i 0 x (held Down m s) g),
-      w.buf-is ∙ sym (crypt-done-out dec_end dec_out add_front length-add_front (λ cu d. refl) (λ cu d. refl) (λ b bs cu d. refl) (λ b bs cu d. refl) i 0 x (held Down m s) g),
-    )
+      | then-i-n w ↦
+          let b = w.decrypt_block-v in
+          let y = b.new.buf in
+          let z = put_mid i (n - i) x y in
+          let t = to_bytes b.result in
+          let h : i < length x = omega arith in
+          let q : n ≡ i + min 24 (length x - i) = omega arith in
+          let k : length z ≡ length x = same_len_mid i (n - i) x y b.auto.buf in
+          let g : length z ≤ n = omega arith in (
+            ap (λ v. held Down m (to_bytes v)) w.v-is ∙ sym (crypt-done-end dec_end dec_out add_front length-add_front (λ cu d. refl) (λ cu d. refl) (λ b bs cu d. refl) (λ b bs cu d. refl) n 0 z (held Down m t) g)
+                ∙ crypt-turn-end dec_end dec_out add_front length-add_front (λ cu d. refl) (λ cu d. refl) (λ b bs cu d. refl) (λ b bs cu d. refl) m i n x y s t h q b.ensures.result_value b.ensures.buf_after,
+            w.buf-is ∙ sym (crypt-done-out dec_end dec_out add_front length-add_front (λ cu d. refl) (λ cu d. refl) (λ b bs cu d. refl) (λ b bs cu d. refl) n 0 z (held Down m t) g)
+                ∙ crypt-turn-out dec_end dec_out add_front length-add_front (λ cu d. refl) (λ cu d. refl) (λ b bs cu d. refl) (λ b bs cu d. refl) m i n x y s t h q b.ensures.result_value b.ensures.buf_after,
+          )
+      | else-i-n w ↦
+          let g : length x ≤ i = omega arith in (
+            ap (λ v. held Down m (to_bytes v)) w.v-is ∙ sym (crypt-done-end dec_end dec_out add_front length-add_front (λ cu d. refl) (λ cu d. refl) (λ b bs cu d. refl) (λ b bs cu d. refl) i 0 x (held Down m s) g),
+            w.buf-is ∙ sym (crypt-done-out dec_end dec_out add_front length-add_front (λ cu d. refl) (λ cu d. refl) (λ b bs cu d. refl) (λ b bs cu d. refl) i 0 x (held Down m s) g),
+          )
     ] in
     let a = c.args in
     let s = to_bytes c.coloured-v.result in
     let es = c.coloured-v.ensures in
     let p : 0 < length a.buf.now = omega arith in
-    let j = ends in record { value = ap (held Down a.self.mode) c.from_words-st.ensures ∙ j.0 ∙ c.loop-i.invariant.2
-          ∙ crypt-start-end dec_end dec_out add_front length-add_front (λ cu d. refl) (λ cu d. refl) (λ b bs cu d. refl) (λ b bs cu d. refl) a.buf.now s a.self 128 p es; buf_after = j.1 ∙ c.loop-i.invariant.3 ∙ crypt-start-out dec_end dec_out add_front length-add_front (λ cu d. refl) (λ cu d. refl) (λ b bs cu d. refl) (λ b bs cu d. refl) a.buf.now s a.self 128 p es }
+    let j = ends in record {
+      value = ap (held Down a.self.mode) c.from_words-st.ensures ∙ j.0 ∙ c.loop-i.invariant.2
+          ∙ crypt-start-end dec_end dec_out add_front length-add_front (λ cu d. refl) (λ cu d. refl) (λ b bs cu d. refl) (λ b bs cu d. refl) a.buf.now s a.self 128 p es;
+      buf_after = j.1 ∙ c.loop-i.invariant.3 ∙ crypt-start-out dec_end dec_out add_front length-add_front (λ cu d. refl) (λ cu d. refl) (λ b bs cu d. refl) (λ b bs cu d. refl) a.buf.now s a.self 128 p es;
+    }

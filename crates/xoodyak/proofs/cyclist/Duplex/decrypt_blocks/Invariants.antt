@@ -1,20 +1,13 @@
 -- The blocks written, then what the rest gives from the words now, are what the whole gives from the start.
-use mathlib.Core.Path.{◌≡◌, refl, sym, ap, ◌∙◌}
-use mathlib.Core.Logic.{⊎_elim}
+use mathlib.Core.Path.{◌≡◌}
 use mathlib.Core.List.{◌++◌}
-use Prim.Native.Nat.{◌+◌, ◌-◌, ◌≤◌, ◌<◌, min}
-use native.Mathlib.Omega.{arith}
-use lib.ListN.{length, take, drop, length-take, length-drop}
-use borrow.Author.Rules.{rules}
-use borrow.Rule.Slice.PartMut.{put_mid, same_len_mid}
+use Prim.Native.Nat.{◌-◌, ◌≤◌}
+use lib.ListN.{length, take, drop}
 use Rattle.laws.specs.Blocks.{cuts}
-use Rattle.laws.specs.Lists.{add_front}
-use Rattle.laws.proofs.Lists.{length-add_front}
 use Rattle.xoodoo.specs.Xoodoo.{to_bytes}
 use Rattle.xoodyak.specs.Cyclist.{dec_end, dec_out}
 use Rattle.xoodyak.specs.declared.cyclist.Phase.TheVariants.{Down}
 use Rattle.xoodyak.proofs.BlockWords.{held}
-use Rattle.xoodyak.proofs.Turns.{crypt-start-end, crypt-start-out, crypt-turn-end, crypt-turn-out, crypt-done-end, crypt-done-out}
 use Rattle.xoodyak.proofs.cyclist.Duplex.decrypt_blocks.Given as goal
 
 abbrev pub invariant-loop-i : goal.invariant-loop-i

@@ -1,5 +1,4 @@
 -- Up with 80 and then Down of no bytes, as the two promise.
-use borrow.Author.Rules.{rules}
 use Rattle.xoodyak.proofs.cyclist.Duplex.empty_block.Goals as goal
 
 pub returns : goal.returns

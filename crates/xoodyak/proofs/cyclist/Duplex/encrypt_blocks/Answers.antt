@@ -1,12 +1,9 @@
 -- The blocks written, then what the rest gives from the words now, are what the whole gives from the start.
 use mathlib.Core.Path.{◌≡◌, refl, sym, ap, ◌∙◌}
-use mathlib.Core.List.{◌++◌}
 use Prim.Native.Nat.{◌+◌, ◌-◌, ◌≤◌, ◌<◌, min}
 use native.Mathlib.Omega.{arith}
-use lib.ListN.{length, take, drop, length-take}
-use borrow.Author.Rules.{rules}
+use lib.ListN.{length, length-take}
 use borrow.Rule.Slice.PartMut.{same_len_mid}
-use Rattle.laws.specs.Blocks.{cuts}
 use Rattle.xoodoo.specs.Xoodoo.{to_bytes}
 use Rattle.xoodyak.specs.Cyclist.{enc_end, enc_out}
 use Rattle.xoodyak.specs.declared.cyclist.Phase.TheVariants.{Down}
@@ -71,5 +68,8 @@ returns c =
     let s = to_bytes c.coloured-v.result in
     let es = c.coloured-v.ensures in
     let p : 0 < length a.buf.now = omega arith in
-    let h : length c.loop-i.buf ≤ c.loop-i.i = omega arith in record { value = ap (held Down a.self.mode) c.from_words-st.ensures ∙ sym (crypt-done-end enc_end enc_out (λ b k. b) (λ b k. refl) (λ cu d. refl) (λ cu d. refl) (λ b bs cu d. refl) (λ b bs cu d. refl) _ _ _ _ h) ∙ c.loop-i.invariant.2
-          ∙ crypt-start-end enc_end enc_out (λ b k. b) (λ b k. refl) (λ cu d. refl) (λ cu d. refl) (λ b bs cu d. refl) (λ b bs cu d. refl) a.buf.now s a.self 128 p es; buf_after = sym (crypt-done-out enc_end enc_out (λ b k. b) (λ b k. refl) (λ cu d. refl) (λ cu d. refl) (λ b bs cu d. refl) (λ b bs cu d. refl) _ _ _ _ h) ∙ c.loop-i.invariant.3 ∙ crypt-start-out enc_end enc_out (λ b k. b) (λ b k. refl) (λ cu d. refl) (λ cu d. refl) (λ b bs cu d. refl) (λ b bs cu d. refl) a.buf.now s a.self 128 p es }
+    let h : length c.loop-i.buf ≤ c.loop-i.i = omega arith in record {
+      value = ap (held Down a.self.mode) c.from_words-st.ensures ∙ sym (crypt-done-end enc_end enc_out (λ b k. b) (λ b k. refl) (λ cu d. refl) (λ cu d. refl) (λ b bs cu d. refl) (λ b bs cu d. refl) _ _ _ _ h) ∙ c.loop-i.invariant.2
+          ∙ crypt-start-end enc_end enc_out (λ b k. b) (λ b k. refl) (λ cu d. refl) (λ cu d. refl) (λ b bs cu d. refl) (λ b bs cu d. refl) a.buf.now s a.self 128 p es;
+      buf_after = sym (crypt-done-out enc_end enc_out (λ b k. b) (λ b k. refl) (λ cu d. refl) (λ cu d. refl) (λ b bs cu d. refl) (λ b bs cu d. refl) _ _ _ _ h) ∙ c.loop-i.invariant.3 ∙ crypt-start-out enc_end enc_out (λ b k. b) (λ b k. refl) (λ cu d. refl) (λ cu d. refl) (λ b bs cu d. refl) (λ b bs cu d. refl) a.buf.now s a.self 128 p es;
+    }

@@ -2,7 +2,6 @@
 use mathlib.Core.Path.{sym, ◌∙◌}
 use Rattle.xoodyak.specs.Feed.{end_block}
 use Rattle.xoodyak.proofs.Feeding.{end_later}
-use borrow.Author.Rules.{rules}
 use Rattle.xoodyak.proofs.cyclist.Duplex.end_block.Goals as goal
 
 pub returns-in-Crate : goal.returns-in-Crate

@@ -1,19 +1,16 @@
 -- What is spent and written, then what the rest gives from where it stands, is what the whole gives from the start.
 use mathlib.Core.Path.{◌≡◌, refl, sym, ◌∙◌}
 use mathlib.Core.Bool.{true}
-use mathlib.Core.List.{List}
-use Prim.Native.Nat.{ℕ, ◌+◌, ◌-◌, ◌<◌, ◌≤◌, min}
+use Prim.Native.Nat.{◌+◌, ◌-◌, ◌<◌, ◌≤◌, min}
 use native.Mathlib.Nat.{sub-zero}
 use native.Mathlib.Omega.{arith}
-use lib.Dec.{leb, ltb}
-use lib.ListN.{length, take, drop, length-drop}
-use borrow.Author.Rules.{rules}
+use lib.Dec.{leb}
+use lib.ListN.{length, drop, length-drop}
 use borrow.Author.Tests.{leb-true}
 use borrow.Rule.Slice.PartMut.{same_len_mid}
 use Rattle.laws.proofs.Lists.{length-mid}
-use Rattle.xoodyak.specs.Calls.{both}
-use Rattle.xoodyak.specs.Feed.{is_open, ups_before, place_in, feed}
-use Rattle.xoodyak.proofs.Feeding.{past, past-none, place-within, going-left, going-allowed, feed-turned, feed-stops, feed-done}
+use Rattle.xoodyak.specs.Feed.{ups_before, place_in}
+use Rattle.xoodyak.proofs.Feeding.{past-none, place-within, going-left, going-allowed, feed-turned, feed-stops, feed-done}
 use Rattle.xoodyak.proofs.cyclist.Duplex.feed.Goals as goal
 
 pub loop-going-init : goal.loop-going-init

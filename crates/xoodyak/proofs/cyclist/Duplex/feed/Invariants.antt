@@ -1,19 +1,11 @@
 -- What is spent and written, then what the rest gives from where it stands, is what the whole gives from the start.
-use mathlib.Core.Path.{◌≡◌, refl, sym, ◌∙◌}
-use mathlib.Core.Bool.{true}
-use mathlib.Core.List.{List}
-use Prim.Native.Nat.{ℕ, ◌+◌, ◌-◌, ◌<◌, ◌≤◌, min}
-use native.Mathlib.Nat.{sub-zero}
-use native.Mathlib.Omega.{arith}
+use mathlib.Core.Path.{◌≡◌}
+use Prim.Native.Nat.{◌-◌, ◌<◌, ◌≤◌}
 use lib.Dec.{leb, ltb}
-use lib.ListN.{length, take, drop, length-drop}
-use borrow.Author.Rules.{rules}
-use borrow.Author.Tests.{leb-true}
-use borrow.Rule.Slice.PartMut.{same_len_mid}
-use Rattle.laws.proofs.Lists.{length-mid}
+use lib.ListN.{length, take, drop}
 use Rattle.xoodyak.specs.Calls.{both}
-use Rattle.xoodyak.specs.Feed.{is_open, ups_before, place_in, feed}
-use Rattle.xoodyak.proofs.Feeding.{past, past-none, place-within, going-left, going-allowed, feed-turned, feed-stops, feed-done}
+use Rattle.xoodyak.specs.Feed.{is_open, ups_before, feed}
+use Rattle.xoodyak.proofs.Feeding.{past}
 use Rattle.xoodyak.proofs.cyclist.Duplex.feed.Given as goal
 
 abbrev pub invariant-loop-going : goal.invariant-loop-going

@@ -8,7 +8,6 @@ use lib.ListN.{length}
 use lib.Seq.{length-take-le}
 use Rattle.xoodyak.specs.declared.cyclist.Duplex.{Duplex}
 use Rattle.xoodyak.specs.Cyclist.{absorb, chosen, if_given, key_call}
-use borrow.Author.Rules.{rules}
 use Rattle.xoodyak.proofs.cyclist.Duplex.key_call.Goals as goal
 use Rattle.xoodyak.proofs.cyclist.Duplex.key_call.Goals.{then-has_id, else-has_id}
 

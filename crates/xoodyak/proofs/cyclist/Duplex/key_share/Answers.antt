@@ -5,7 +5,6 @@ use lib.ListN.{length}
 use Rattle.xoodyak.specs.declared.cyclist.Phase.TheVariants.{Down}
 use Rattle.xoodyak.specs.Shares.{key_share}
 use Rattle.xoodyak.proofs.Costs.{share-le, given-le, chosen-le}
-use borrow.Author.Rules.{rules}
 use Rattle.xoodyak.proofs.cyclist.Duplex.key_share.Goals as goal
 
 pub overflow_add-t : goal.overflow_add-t

@@ -2,7 +2,6 @@
 use mathlib.Core.Path.{sym, ◌∙◌}
 use Rattle.xoodyak.specs.Feed.{open_block}
 use Rattle.xoodyak.proofs.Feeding.{place-later}
-use borrow.Author.Rules.{rules}
 use Rattle.xoodyak.proofs.cyclist.Duplex.open_block.Goals as goal
 
 pub returns-then-place-eq0 : goal.returns-then-place-eq0

@@ -1,6 +1,5 @@
 -- 16 bytes squeezed with 10 and absorbed again.
 use Rattle.xoodyak.specs.Cyclist.{ratchet}
-use borrow.Author.Rules.{rules}
 use Rattle.xoodyak.proofs.cyclist.Duplex.ratchet.Goals as goal
 
 pub returns : goal.returns

@@ -1,7 +1,6 @@
 -- Both phases, as the definition goes by them.
 use mathlib.Core.Path.{◌∙◌}
 use Rattle.xoodyak.specs.Cyclist.{ready}
-use borrow.Author.Rules.{rules}
 use Rattle.xoodyak.proofs.cyclist.Duplex.ready.Goals as goal
 
 pub returns-in-Up : goal.returns-in-Up

@@ -5,7 +5,6 @@ use Prim.Native.Nat.{ℕ, ◌+◌, ◌-◌, ◌≤◌}
 use native.Mathlib.Omega.{arith}
 use lib.ListN.{length, take, drop, drop_of_length-le}
 use Rattle.laws.specs.Lists.{add_front}
-use Rattle.xoodyak.specs.declared.cyclist.Duplex.{Duplex}
 use Rattle.xoodyak.specs.declared.feed.Kind.{Kind}
 use Rattle.xoodyak.specs.declared.feed.Kind.TheVariants.{Seal, Open}
 use Rattle.xoodyak.proofs.Runs.{text, part_out, part_end}

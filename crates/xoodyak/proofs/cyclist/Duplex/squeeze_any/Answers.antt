@@ -13,7 +13,6 @@ use Rattle.xoodyak.specs.Cyclist.{squeeze_rate, up, up_bytes, nexts_end, nexts_o
 use Rattle.xoodyak.specs.declared.cyclist.Phase.TheVariants.{Up}
 use Rattle.xoodyak.proofs.BlockWords.{held}
 use Rattle.xoodyak.proofs.Turns.{rate-le, rate-pos, nexts-done-end, squeeze-out-is, squeeze-end-is}
-use borrow.Author.Rules.{rules}
 use Rattle.xoodyak.proofs.cyclist.Duplex.squeeze_any.Goals as goal
 
 pub slice_bounds-write_front-end-2 : goal.slice_bounds-write_front-end-2
@@ -65,5 +64,8 @@ returns c =
     let lf : length f.new.out ≡ k = f.auto.out ∙ lk in
     let d = length (take (length w - k) (drop k w)) in
     let em : d ≡ n - k = simp (length-take, length-drop, length-append) (omega arith) in
-    let e : k ≡ min (squeeze_rate m) n = omega arith in record { value = c.after_up-2.ensures ∙ b.ensures.phase_value m ∙ ap (λ q. nexts_end (sizes q d) t) r.ensures ∙ squeeze-end-is a.self t n k d a.cu e em (words); out_after = put-front-tail k f.new.out a.out.now b.new.out lf
-          ∙ rw (ef, b.ensures.out_after m, r.ensures) (squeeze-out-is a.self t n k d a.cu e em words) }
+    let e : k ≡ min (squeeze_rate m) n = omega arith in record {
+      value = c.after_up-2.ensures ∙ b.ensures.phase_value m ∙ ap (λ q. nexts_end (sizes q d) t) r.ensures ∙ squeeze-end-is a.self t n k d a.cu e em (words);
+      out_after = put-front-tail k f.new.out a.out.now b.new.out lf
+          ∙ rw (ef, b.ensures.out_after m, r.ensures) (squeeze-out-is a.self t n k d a.cu e em words);
+    }

@@ -4,7 +4,6 @@ use Prim.Native.Nat.{◌≤◌, ◌<◌}
 use native.Mathlib.Nat.{sub-zero}
 use native.Mathlib.Omega.{arith}
 use lib.ListN.{length}
-use borrow.Author.Rules.{rules}
 use Rattle.laws.specs.Blocks.{sizes}
 use Rattle.xoodyak.specs.Cyclist.{squeeze_rate, nexts_end, nexts_out, squeeze_more_end, squeeze_more_out}
 use Rattle.xoodyak.specs.declared.cyclist.Phase.TheVariants.{Up}

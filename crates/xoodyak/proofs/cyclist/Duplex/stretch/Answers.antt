@@ -4,7 +4,6 @@ use Prim.Native.Nat.{◌+◌, ◌≤◌}
 use lib.ListN.{length}
 use Rattle.xoodyak.specs.Feed.{place_in}
 use Rattle.xoodyak.proofs.Runs.{whole-begins}
-use borrow.Author.Rules.{rules}
 use Rattle.xoodyak.proofs.cyclist.Duplex.stretch.Goals as goal
 
 pub whole_block-requires : goal.whole_block-requires

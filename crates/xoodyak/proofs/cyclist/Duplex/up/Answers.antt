@@ -5,7 +5,6 @@ use Rattle.xoodoo.specs.Xoodoo.{xoodoo}
 use Rattle.xoodyak.specs.Cyclist.{up, up_bytes}
 use Rattle.xoodyak.specs.declared.cyclist.Phase.TheVariants.{Up}
 use Rattle.xoodyak.proofs.BlockWords.{held}
-use borrow.Author.Rules.{rules}
 use Rattle.xoodyak.proofs.cyclist.Duplex.up.Goals as goal
 use Rattle.xoodyak.proofs.cyclist.Duplex.up.Goals.{in-Hash, in-Keyed}
 

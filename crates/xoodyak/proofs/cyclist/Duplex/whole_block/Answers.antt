@@ -10,7 +10,6 @@ use Rattle.xoodoo.proofs.Bytes.{to-bytes}
 use Rattle.xoodoo.proofs.Inverse.{xoodoo-length}
 use Rattle.xoodyak.proofs.BlockWords.{met-out}
 use Rattle.xoodyak.proofs.Runs.{whole-end, whole_out}
-use borrow.Author.Rules.{rules}
 use Rattle.xoodyak.proofs.cyclist.Duplex.whole_block.Goals as goal
 
 pub returns-in-Seal : goal.returns-in-Seal
