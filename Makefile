@@ -5,7 +5,7 @@ LINES ?= 70000
 
 help:
 	@echo 'make demo    prove what the demonstration needs, then seal, open and refuse a batch of readings'
-	@echo 'make test    the gate: layout, promises, imports; then everything proved from nothing, every must-fail edit and slip, every program'
+	@echo 'make test    the gate: promises, imports; then everything proved from nothing, every wrong program tried, every program run'
 	@echo 'make oracle  compare the proved program with the original Rust crate on random transcripts (SEEDS, LINES)'
 	@echo 'make stored  make the stored transcript and its answers anew'
 	@echo 'make bench   time the library, through the drop-in crate, beside the original Rust crate: tables, and docs/benchmarks.svg'
@@ -13,36 +13,32 @@ help:
 	@echo 'make rust    the drop-in crate beside the original (CALLS, SEEDS), its examples, and the C program under valgrind'
 
 demo:
-	@mkdir -p target
-	@echo 'proving what the demonstration needs: some minutes the first time'
-	@rt check demo > target/demo.log 2>&1 || { cat target/demo.log; exit 1; }
-	@target/bin/demo
+	@echo 'proving what the demonstration needs: some minutes the first time' >&2
+	@cd crates/demo && rt run
 
 checks:
-	rt fmt --check
 	python3 tools/promises.py
 	python3 tools/imports.py
 	python3 tools/seams.py
 
-# The verdict is that of `rt ci`; tools/slips.py then tries the edits that need no check from nothing, and tools/edits.sh prints only
-# where an edit shows nothing.
+# The verdict is that of `rt ci`, whose last line is 'N passed, M failed'; it also refuses what `rt fmt` has not laid out.
 test: checks
-	rt ci
-	@python3 tools/slips.py
-	@tools/edits.sh --quiet
+	@tools/gate.sh
 
 oracle:
 	rust/oracle/build.sh
-	rt check replay
-	LINES=25000 KINDS=x tools/oracle.sh target/bin/replay $(SEEDS)
-	LINES=$(LINES) KINDS=all tools/oracle.sh target/bin/replay $(SEEDS)
+	cd crates/replay && rt run < /dev/null
+	LINES=25000 KINDS=x tools/oracle.sh crates/replay/out/replay $(SEEDS)
+	LINES=$(LINES) KINDS=all tools/oracle.sh crates/replay/out/replay $(SEEDS)
 
 stored:
 	rust/oracle/build.sh
 	python3 tools/transcripts.py stored all crates/replay/stdin crates/replay/stdout
 
 lib:
-	rt staticlib capi
+	cd crates/capi_c && rt lib
+	@mkdir -p target/staticlib
+	cp crates/capi_c/out/libcapi_c.a target/staticlib/libcapi.a
 
 bench: lib
 	rust/bench/build.sh

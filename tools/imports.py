@@ -12,10 +12,10 @@ WORD = re.compile(r"[^\s(){};,.]+")
 
 def used(name, words):
     name = name.split(' as ')[-1].strip()
-    parts = [p for p in name.split('_') if p] if '_' in name and not name.startswith('«') else [name]
     if name.startswith('syntax '):
         return True
-    return all(p in words for p in parts) or name in words or '«%s»' % name in words
+    # an operator has a ring where its arguments go
+    return name in words or all(p in words for p in name.split('◌') if p) or '«%s»' % name in words
 
 
 def check(path, fix):
@@ -52,7 +52,8 @@ def main():
     fix = '--fix' in sys.argv
     rest = [a for a in sys.argv[1:] if a != '--fix']
     top = pathlib.Path(rest[0] if rest else '.')
-    files = [p for kind in ('*.antt', '*.rt') for p in sorted(top.glob('crates/**/' + kind))]
+    folders = ('src', 'specs', 'proofs')
+    files = [p for kind in ('*.antt', '*.rt') for f in folders for p in sorted(top.glob('crates/*/' + f + '/**/' + kind))]
     bad = [p for p in files if check(p, fix)]
     sys.exit(1 if bad else 0)
 

@@ -8,12 +8,12 @@ import sys
 
 names = re.findall(r'^(?:unfoldable|abbrev) pub (\S+)', pathlib.Path('crates/xoodoo/specs/Xoodoo.antt').read_text(), re.M)
 bad = False
-for file in sorted(pathlib.Path('crates').glob('*/*/**/*.antt')):
+for file in sorted(p for f in ('specs', 'proofs') for p in pathlib.Path('crates').glob('*/' + f + '/**/*.antt')):
     if file.parts[1] in ('laws', 'xoodoo', 'theorems'):
         continue
     text = file.read_text()
     brought = set()
-    for group in re.findall(r'^use Rattle·xoodoo\.specs\.Xoodoo\.\{(.*)\}$', text, re.M):
+    for group in re.findall(r'^use Rattle\.xoodoo\.specs\.Xoodoo\.\{(.*)\}$', text, re.M):
         brought |= {n.strip() for n in group.split(',')}
     for line in re.findall(r'^\s*unfolding (.*)$', text, re.M):
         for name in set(line.split()) & brought & set(names):

@@ -2,7 +2,7 @@
 ghost use Rattle.std.specs.Prelude.{◌≡◌};
 ghost use Rattle.walkback.specs.Walk.{absorbs, absorbs_more, squeezes, squeezes_key, squeezes_more, keys, encrypts, seals};
 ghost use Rattle.capi.specs.Capi.{flag_of, sound_with, with_flags};
-ghost use Rattle.capi.specs.Back.{head_back, exported_back};
+ghost use Rattle.capi.specs.Back.{exported_back};
 
 #[unsafe(no_mangle)]
 pub extern "C" fn lafomeihu_back_absorb(

@@ -5,6 +5,8 @@ use crate::session_lines::{
 };
 use crate::words::{PhaseWord, first, phase, rest, room, space};
 use check::same;
+use std::io;
+use std::io::Write;
 use walkback::Before;
 use xoodyak::Answer;
 use xoodyak::cyclist::Phase;
@@ -119,48 +121,47 @@ fn squeeze(
     p: Phase,
     how: SqueezeCall,
     words: &[u8],
-    out: &mut [u8],
-    at: &mut usize,
-) -> Held {
+    out: &mut impl Write,
+) -> io::Result<Held> {
     let store = space();
     let length = room(words, &store);
     if !length.ok {
-        return bad(h, out, at);
+        return bad(h, out);
     }
-    done(before(h, p, squeezed(h, p, how, length.n)), out, at)
+    done(before(h, p, squeezed(h, p, how, length.n)), out)
 }
 
 // The words after `back`: the phase before the call, and the call.
-pub fn answer(h: Held, line: &[u8], out: &mut [u8], at: &mut usize) -> Held {
+pub fn answer(h: Held, line: &[u8], out: &mut impl Write) -> io::Result<Held> {
     let PhaseWord::Is(p) = phase(first(line)) else {
-        return bad(h, out, at);
+        return bad(h, out);
     };
     let call = rest(line);
     let name = first(call);
     let words = rest(call);
     if same(name, b"absorb") {
-        return taking(h, TakingCall::BackAbsorb(p), words, out, at);
+        return taking(h, TakingCall::BackAbsorb(p), words, out);
     }
     if same(name, b"absorb_more") {
-        return taking_more(h, MoreCall::Back(p), words, out, at);
+        return taking_more(h, MoreCall::Back(p), words, out);
     }
     if same(name, b"squeeze") {
-        return squeeze(h, p, SqueezeCall::Plain, words, out, at);
+        return squeeze(h, p, SqueezeCall::Plain, words, out);
     }
     if same(name, b"squeeze_key") {
-        return squeeze(h, p, SqueezeCall::Key, words, out, at);
+        return squeeze(h, p, SqueezeCall::Key, words, out);
     }
     if same(name, b"squeeze_more") {
-        return squeeze(h, p, SqueezeCall::More, words, out, at);
+        return squeeze(h, p, SqueezeCall::More, words, out);
     }
     if same(name, b"key") {
-        return keying(h, KeyCall::Back(p), words, out, at);
+        return keying(h, KeyCall::Back(p), words, out);
     }
     if same(name, b"encrypt") {
-        return taking(h, TakingCall::BackEncrypt(p), words, out, at);
+        return taking(h, TakingCall::BackEncrypt(p), words, out);
     }
     if same(name, b"seal") {
-        return taking(h, TakingCall::BackSeal(p), words, out, at);
+        return taking(h, TakingCall::BackSeal(p), words, out);
     }
-    bad(h, out, at)
+    bad(h, out)
 }

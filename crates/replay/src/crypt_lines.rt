@@ -3,6 +3,8 @@ use crate::out;
 use crate::session_lines::{Held, bad, hold};
 use crate::words::{bytes, first, rest, room, space};
 use check::same;
+use std::io;
+use std::io::Write;
 use xoodyak::{Answer, Session};
 
 // The calls from one buffer into another, and those in place, that answer a number and a buffer.
@@ -28,7 +30,7 @@ fn copied(s: Session, how: CopyingCall, buf: &mut [u8], bin: &[u8]) -> Answer {
     }
 }
 
-pub fn copying(h: Held, how: CopyingCall, words: &[u8], out: &mut [u8], at: &mut usize) -> Held {
+pub fn copying(h: Held, how: CopyingCall, words: &[u8], out: &mut impl Write) -> io::Result<Held> {
     let mut store = space();
     let length = room(first(words), &store);
     let n = length.n;
@@ -36,13 +38,13 @@ pub fn copying(h: Held, how: CopyingCall, words: &[u8], out: &mut [u8], at: &mut
     let got = bytes(rest(words), &mut bin);
     let m = got.n;
     if !(length.ok && got.ok) {
-        return bad(h, out, at);
+        return bad(h, out);
     }
     let s = h.session;
     let buf = &mut store[0..n];
     let r = copied(s, how, buf, &bin[0..m]);
-    out::number_buf(out, at, r.number, r.missing, buf);
-    hold(r.session, r.spent)
+    out::number_buf(out, r.number, r.missing, buf)?;
+    Ok(hold(r.session, r.spent))
 }
 
 fn changed(s: Session, how: InPlaceCall, buf: &mut [u8]) -> Answer {
@@ -53,34 +55,34 @@ fn changed(s: Session, how: InPlaceCall, buf: &mut [u8]) -> Answer {
     }
 }
 
-pub fn in_place(h: Held, how: InPlaceCall, words: &[u8], out: &mut [u8], at: &mut usize) -> Held {
+pub fn in_place(h: Held, how: InPlaceCall, words: &[u8], out: &mut impl Write) -> io::Result<Held> {
     let mut store = space();
     let got = bytes(words, &mut store);
     let n = got.n;
     if !got.ok {
-        return bad(h, out, at);
+        return bad(h, out);
     }
     let s = h.session;
     let buf = &mut store[0..n];
     let r = changed(s, how, buf);
-    out::number_buf(out, at, r.number, r.missing, buf);
-    hold(r.session, r.spent)
+    out::number_buf(out, r.number, r.missing, buf)?;
+    Ok(hold(r.session, r.spent))
 }
 
-pub fn answer(h: Held, line: &[u8], out: &mut [u8], at: &mut usize) -> Held {
+pub fn answer(h: Held, line: &[u8], out: &mut impl Write) -> io::Result<Held> {
     let name = first(line);
     let words = rest(line);
     if same(name, b"encrypt") {
-        return copying(h, CopyingCall::Encrypt, words, out, at);
+        return copying(h, CopyingCall::Encrypt, words, out);
     }
     if same(name, b"decrypt") {
-        return copying(h, CopyingCall::Decrypt, words, out, at);
+        return copying(h, CopyingCall::Decrypt, words, out);
     }
     if same(name, b"encrypt_in_place") {
-        return in_place(h, InPlaceCall::Encrypt, words, out, at);
+        return in_place(h, InPlaceCall::Encrypt, words, out);
     }
     if same(name, b"decrypt_in_place") {
-        return in_place(h, InPlaceCall::Decrypt, words, out, at);
+        return in_place(h, InPlaceCall::Decrypt, words, out);
     }
-    bad(h, out, at)
+    bad(h, out)
 }

@@ -1,5 +1,6 @@
 // Answers a transcript: reads calls on standard input, one to a line, and writes one answer for each.
 #![tactic(auto)]
+
 mod aead_lines;
 mod back_lines;
 mod crypt_lines;
@@ -13,22 +14,22 @@ mod xoodoo_lines;
 ghost use Rattle.std.specs.Prelude.{◌≡◌, length};
 
 use check::same;
-use libc::STDIN_FILENO;
 use session_lines::{Held, hold};
+use std::io;
+use std::io::{BufWriter, Read, Write};
 use words::{RuleWord, begins, first, rest, rule};
 use xoodoo::Xoodoo;
 use xoodyak::{Rule, Session};
 
 const LONGEST: usize = 40000;
 
-// What a runner holds, the rule of the sessions that it makes, how many bytes of the present line have come, and whether there may be more.
+// What a runner holds, the rule of the sessions that it makes, and how many bytes of the present line have come.
 #[derive(Clone, Copy)]
 pub struct State {
     pub held: Held,
     pub rule: Rule,
     pub xoodoo: Xoodoo,
     pub come: usize,
-    pub more: bool,
 }
 
 impl State {
@@ -38,7 +39,6 @@ impl State {
             rule: Rule::Crate,
             xoodoo: Xoodoo::default(),
             come: 0,
-            more: true,
         }
     }
 
@@ -60,7 +60,6 @@ impl State {
             rule: r,
             xoodoo: xoodoo,
             come: self.come,
-            more: self.more,
         }
     }
 }
@@ -76,108 +75,97 @@ fn front<'a>(text: &'a [u8], n: usize) -> &'a [u8] {
     if n < text.len() { &text[0..n] } else { text }
 }
 
-fn set_rule(m: State, word: &[u8], out: &mut [u8], at: &mut usize) -> State {
+fn set_rule(m: State, word: &[u8], out: &mut impl Write) -> io::Result<State> {
     let RuleWord::Is(r) = rule(word) else {
-        out::bad(out, at);
-        return m;
+        out::bad(out)?;
+        return Ok(m);
     };
-    out::number(out, at, 0);
-    m.with_rule(r)
+    out::number(out, 0)?;
+    Ok(m.with_rule(r))
 }
 
-fn answer(m: State, text: &[u8], n: usize, out: &mut [u8], at: &mut usize) -> State {
+fn answer(m: State, text: &[u8], n: usize, out: &mut impl Write) -> io::Result<State> {
     let line = front(text, n);
     if line.len() == 0 {
-        return m;
+        return Ok(m);
     }
     if line[0] == b'#' {
-        return m;
+        return Ok(m);
     }
     if line.len() > LONGEST {
-        out::bad(out, at);
-        return m;
+        out::bad(out)?;
+        return Ok(m);
     }
     let name = first(line);
     if begins(name, b"x_") {
         let x = m.xoodoo;
-        return m.with_xoodoo(xoodoo_lines::answer(x, line, out, at));
+        return Ok(m.with_xoodoo(xoodoo_lines::answer(x, line, out)?));
     }
     let h = m.held;
     if begins(name, b"aead_") {
-        return m.with_held(aead_lines::answer(h, line, out, at));
+        return Ok(m.with_held(aead_lines::answer(h, line, out)?));
     }
     if begins(name, b"encrypt") || begins(name, b"decrypt") {
-        return m.with_held(crypt_lines::answer(h, line, out, at));
+        return Ok(m.with_held(crypt_lines::answer(h, line, out)?));
     }
     if same(name, b"begin") || same(name, b"feed") || same(name, b"finish") {
-        return m.with_held(feed_lines::answer(h, line, out, at));
+        return Ok(m.with_held(feed_lines::answer(h, line, out)?));
     }
     if same(name, b"back") {
-        return m.with_held(back_lines::answer(h, rest(line), out, at));
+        return Ok(m.with_held(back_lines::answer(h, rest(line), out)?));
     }
     if same(line, b"rule") {
-        session_lines::own_rule(h.session, out, at);
-        return m;
+        session_lines::own_rule(h.session, out)?;
+        return Ok(m);
     }
     if same(name, b"rule") {
-        return set_rule(m, rest(line), out, at);
+        return set_rule(m, rest(line), out);
     }
     let r = m.rule;
-    m.with_held(session_lines::answer(h, r, line, out, at))
+    Ok(m.with_held(session_lines::answer(h, r, line, out)?))
 }
 
 // Gathers the byte into the line, or answers the line that it ends.
-fn take(m: State, b: u8, line: &mut [u8], out: &mut [u8], at: &mut usize) -> State {
+fn take(m: State, b: u8, line: &mut [u8], out: &mut impl Write) -> io::Result<State> {
     let mut m = m;
     let n = m.come;
     if b == b'\n' {
         m.come = 0;
-        return answer(m, line, n, out, at);
+        return answer(m, line, n, out);
     }
     if n < line.len() {
         line[n] = b;
         m.come = n + 1;
     }
-    m
+    Ok(m)
 }
 
-fn take_all(m: State, bytes: &[u8], line: &mut [u8], out: &mut [u8], at: &mut usize) -> State {
+fn take_all(m: State, bytes: &[u8], line: &mut [u8], out: &mut impl Write) -> io::Result<State> {
     let mut m = m;
-    let mut i = 0;
-    while i < bytes.len() {
-        m = take(m, bytes[i], line, out, at);
-        i += 1;
+    for b in bytes {
+        m = take(m, *b, line, out)?;
     }
-    m
+    Ok(m)
 }
 
-fn piece(m: State, buf: &mut [u8], line: &mut [u8], out: &mut [u8], at: &mut usize) -> State {
-    let mut m = m;
-    let n = io::count(libc::read(STDIN_FILENO, buf), buf);
-    if n == 0 {
-        m.more = false;
-        return m;
-    }
-    take_all(m, &buf[..n], line, out, at)
-}
-
-// A proved loop has to end, and nothing says that the input does: the turns count down from a number that no run uses up.
-fn replay(buf: &mut [u8], line: &mut [u8], out: &mut [u8], at: &mut usize) {
+// A proved loop has to end, and nothing says that the input does: no run uses up so many turns.
+fn replay(from: &mut impl Read, out: &mut impl Write) -> io::Result<()> {
+    let mut buf = [0u8; 65536];
+    let mut line = line_space();
     let mut m = State::start();
-    let mut turns = u64::MAX;
-    while turns > 0 && m.more {
-        m = piece(m, buf, line, out, at);
-        turns -= 1;
+    for _ in 0..u64::MAX {
+        let n = from.read(&mut buf)?;
+        if n == 0 {
+            break;
+        }
+        m = take_all(m, &buf[..n], &mut line, out)?;
     }
     let n = m.come;
-    answer(m, line, n, out, at);
+    answer(m, &line, n, out)?;
+    out.flush()
 }
 
-fn main() {
-    let mut buf = io::large_buffer();
-    let mut line = line_space();
-    let mut out = io::large_buffer();
-    let mut at = 0;
-    replay(&mut buf, &mut line, &mut out, &mut at);
-    out::flush(&out, at);
+fn main(rt: HostRuntime) -> io::Result<()> {
+    let mut out = BufWriter::new(rt.alloc(), io::writer(&rt))?;
+    replay(&mut rt.reader(), &mut out)
 }

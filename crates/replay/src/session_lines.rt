@@ -4,6 +4,8 @@ use crate::words::{
 };
 use crate::{back_lines, out};
 use check::same;
+use std::io;
+use std::io::Write;
 use xoodyak::cyclist::{Duplex, Mode, Phase};
 use xoodyak::feed::{Kind, Message};
 use xoodyak::tag::Tag;
@@ -52,15 +54,15 @@ pub fn hold(s: Session, spent: usize) -> Held {
     }
 }
 
-pub fn bad(h: Held, out: &mut [u8], at: &mut usize) -> Held {
-    out::bad(out, at);
-    h
+pub fn bad(h: Held, out: &mut impl Write) -> io::Result<Held> {
+    out::bad(out)?;
+    Ok(h)
 }
 
 // An answer that is its number alone.
-pub fn done(r: Answer, out: &mut [u8], at: &mut usize) -> Held {
-    out::number(out, at, r.number);
-    hold(r.session, r.spent)
+pub fn done(r: Answer, out: &mut impl Write) -> io::Result<Held> {
+    out::number(out, r.number)?;
+    Ok(hold(r.session, r.spent))
 }
 
 pub fn session(st: [u8; 48], mode: Mode, phase: Phase, rule: Rule, message: Message) -> Session {
@@ -84,56 +86,56 @@ fn none_begun() -> Message {
     }
 }
 
-fn set(h: Held, words: &[u8], out: &mut [u8], at: &mut usize) -> Held {
+fn set(h: Held, words: &[u8], out: &mut impl Write) -> io::Result<Held> {
     let after = rest(words);
     let mut st = [0u8; 48];
     let whole = exactly(rest(after), &mut st);
     let ModeWord::Is(m) = mode(first(words)) else {
-        return bad(h, out, at);
+        return bad(h, out);
     };
     let PhaseWord::Is(p) = phase(first(after)) else {
-        return bad(h, out, at);
+        return bad(h, out);
     };
     if !whole {
-        return bad(h, out, at);
+        return bad(h, out);
     }
-    out::number(out, at, 0);
+    out::number(out, 0)?;
     let s = h.session;
     let rule = s.rule;
-    hold(session(st, m, p, rule, none_begun()), h.spent)
+    Ok(hold(session(st, m, p, rule, none_begun()), h.spent))
 }
 
-fn mode_name(out: &mut [u8], at: &mut usize, m: Mode) {
+fn mode_name(out: &mut impl Write, m: Mode) -> io::Result<()> {
     match m {
-        Mode::Hash => out::text(out, at, b"hash "),
-        Mode::Keyed => out::text(out, at, b"keyed "),
+        Mode::Hash => out::text(out, b"hash "),
+        Mode::Keyed => out::text(out, b"keyed "),
     }
 }
 
-fn phase_name(out: &mut [u8], at: &mut usize, p: Phase) {
+fn phase_name(out: &mut impl Write, p: Phase) -> io::Result<()> {
     match p {
-        Phase::Up => out::text(out, at, b"up "),
-        Phase::Down => out::text(out, at, b"down "),
+        Phase::Up => out::text(out, b"up "),
+        Phase::Down => out::text(out, b"down "),
     }
 }
 
 // The session's own rule.
-pub fn own_rule(s: Session, out: &mut [u8], at: &mut usize) {
+pub fn own_rule(s: Session, out: &mut impl Write) -> io::Result<()> {
     let rule = s.rule;
     match rule {
-        Rule::Crate => out::text(out, at, b"crate\n"),
-        Rule::Specification => out::text(out, at, b"spec\n"),
+        Rule::Crate => out::text(out, b"crate\n"),
+        Rule::Specification => out::text(out, b"spec\n"),
     }
 }
 
-fn state(s: Session, out: &mut [u8], at: &mut usize) {
+fn state(s: Session, out: &mut impl Write) -> io::Result<()> {
     let d = s.duplex;
     let m = d.mode;
     let p = d.phase;
     let st = d.st;
-    mode_name(out, at, m);
-    phase_name(out, at, p);
-    out::state(out, at, &st);
+    mode_name(out, m)?;
+    phase_name(out, p)?;
+    out::state(out, &st)
 }
 
 fn keyed<'a>(
@@ -188,14 +190,14 @@ fn keyed<'a>(
     }
 }
 
-pub fn keying(h: Held, how: KeyCall, words: &[u8], out: &mut [u8], at: &mut usize) -> Held {
+pub fn keying(h: Held, how: KeyCall, words: &[u8], out: &mut impl Write) -> io::Result<Held> {
     let mut key = space();
     let mut second = space();
     let mut third = space();
     let mut counter = space();
     let w = key_words(words, &mut key, &mut second, &mut third, &mut counter);
     if !w.ok {
-        return bad(h, out, at);
+        return bad(h, out);
     }
     let k = w.key;
     let i = w.second;
@@ -212,7 +214,7 @@ pub fn keying(h: Held, how: KeyCall, words: &[u8], out: &mut [u8], at: &mut usiz
         w.has_counter,
         &counter[0..c],
     );
-    done(r, out, at)
+    done(r, out)
 }
 
 fn taken(h: Held, how: TakingCall, bin: &[u8]) -> Answer {
@@ -225,14 +227,14 @@ fn taken(h: Held, how: TakingCall, bin: &[u8]) -> Answer {
     }
 }
 
-pub fn taking(h: Held, how: TakingCall, words: &[u8], out: &mut [u8], at: &mut usize) -> Held {
+pub fn taking(h: Held, how: TakingCall, words: &[u8], out: &mut impl Write) -> io::Result<Held> {
     let mut bin = space();
     let got = bytes(words, &mut bin);
     let n = got.n;
     if !got.ok {
-        return bad(h, out, at);
+        return bad(h, out);
     }
-    done(taken(h, how, &bin[0..n]), out, at)
+    done(taken(h, how, &bin[0..n]), out)
 }
 
 fn taken_more(h: Held, how: MoreCall, bin: &[u8], rate: usize) -> Answer {
@@ -243,15 +245,15 @@ fn taken_more(h: Held, how: MoreCall, bin: &[u8], rate: usize) -> Answer {
     }
 }
 
-pub fn taking_more(h: Held, how: MoreCall, words: &[u8], out: &mut [u8], at: &mut usize) -> Held {
+pub fn taking_more(h: Held, how: MoreCall, words: &[u8], out: &mut impl Write) -> io::Result<Held> {
     let mut bin = space();
     let got = bytes(first(words), &mut bin);
     let n = got.n;
     let rate = decimal(rest(words));
     if !(got.ok && rate.ok) {
-        return bad(h, out, at);
+        return bad(h, out);
     }
-    done(taken_more(h, how, &bin[0..n], rate.n), out, at)
+    done(taken_more(h, how, &bin[0..n], rate.n), out)
 }
 
 fn squeezed(s: Session, how: SqueezeCall, buf: &mut [u8]) -> Answer {
@@ -262,77 +264,78 @@ fn squeezed(s: Session, how: SqueezeCall, buf: &mut [u8]) -> Answer {
     }
 }
 
-fn squeeze(h: Held, how: SqueezeCall, words: &[u8], out: &mut [u8], at: &mut usize) -> Held {
+fn squeeze(h: Held, how: SqueezeCall, words: &[u8], out: &mut impl Write) -> io::Result<Held> {
     let mut store = space();
     let got = room(words, &store);
     let n = got.n;
     if !got.ok {
-        return bad(h, out, at);
+        return bad(h, out);
     }
     let s = h.session;
     let buf = &mut store[0..n];
     let r = squeezed(s, how, buf);
-    out::number_buf(out, at, r.number, r.missing, buf);
-    hold(r.session, r.spent)
+    out::number_buf(out, r.number, r.missing, buf)?;
+    Ok(hold(r.session, r.spent))
 }
 
-fn verify(words: &[u8], out: &mut [u8], at: &mut usize) {
+fn verify(words: &[u8], out: &mut impl Write) -> io::Result<()> {
     let mut one = [0u8; 16];
     let mut other = [0u8; 16];
     if exactly(first(words), &mut one) && exactly(rest(words), &mut other) {
-        out::number(out, at, Tag::from_bytes(one).verify(other));
+        out::number(out, Tag::from_bytes(one).verify(other))?;
     } else {
-        out::bad(out, at);
+        out::bad(out)?;
     }
+    Ok(())
 }
 
 // A session made new has the rule given.
-pub fn answer(h: Held, rule: Rule, line: &[u8], out: &mut [u8], at: &mut usize) -> Held {
+pub fn answer(h: Held, rule: Rule, line: &[u8], out: &mut impl Write) -> io::Result<Held> {
     let s = h.session;
     let name = first(line);
     let words = rest(line);
     if same(line, b"hash") {
-        out::number(out, at, 0);
-        return hold(Session::hash(rule), h.spent);
+        out::number(out, 0)?;
+        return Ok(hold(Session::hash(rule), h.spent));
     }
     if same(line, b"state") {
-        state(s, out, at);
-        return h;
+        state(s, out)?;
+        return Ok(h);
     }
     if same(line, b"spent") {
-        out::count(out, at, h.spent);
-        return h;
+        out::count(out, h.spent)?;
+        return Ok(h);
     }
     if same(line, b"ratchet") {
-        return done(s.ratchet(), out, at);
+        return done(s.ratchet(), out);
     }
     if same(name, b"new") {
-        return keying(h, KeyCall::New(rule), words, out, at);
+        return keying(h, KeyCall::New(rule), words, out);
     }
     if same(name, b"key") {
-        return keying(h, KeyCall::Key, words, out, at);
+        return keying(h, KeyCall::Key, words, out);
     }
     if same(name, b"set") {
-        return set(h, words, out, at);
+        return set(h, words, out);
     }
     if same(name, b"absorb") {
-        return taking(h, TakingCall::Absorb, words, out, at);
+        return taking(h, TakingCall::Absorb, words, out);
     }
     if same(name, b"absorb_more") {
-        return taking_more(h, MoreCall::Absorb, words, out, at);
+        return taking_more(h, MoreCall::Absorb, words, out);
     }
     if same(name, b"squeeze") {
-        return squeeze(h, SqueezeCall::Plain, words, out, at);
+        return squeeze(h, SqueezeCall::Plain, words, out);
     }
     if same(name, b"squeeze_key") {
-        return squeeze(h, SqueezeCall::Key, words, out, at);
+        return squeeze(h, SqueezeCall::Key, words, out);
     }
     if same(name, b"squeeze_more") {
-        return squeeze(h, SqueezeCall::More, words, out, at);
+        return squeeze(h, SqueezeCall::More, words, out);
     }
     if same(name, b"verify") {
-        verify(words, out, at);
-        return h;
+        verify(words, out)?;
+        return Ok(h);
     }
-    bad(h, out, at)
+    bad(h, out)
 }

@@ -2,112 +2,114 @@
 use crate::out;
 use crate::words::{bytes, decimal, exactly, first, rest, room, space};
 use check::same;
+use std::io;
+use std::io::Write;
 use xoodoo::Xoodoo;
 
-fn set(x: Xoodoo, words: &[u8], out: &mut [u8], at: &mut usize) -> Xoodoo {
+fn set(x: Xoodoo, words: &[u8], out: &mut impl Write) -> io::Result<Xoodoo> {
     let mut st = [0u8; 48];
     if exactly(words, &mut st) {
-        out::number(out, at, 0);
-        return Xoodoo::from_bytes(st);
+        out::number(out, 0)?;
+        return Ok(Xoodoo::from_bytes(st));
     }
-    out::bad(out, at);
-    x
+    out::bad(out)?;
+    Ok(x)
 }
 
-fn add_byte(x: Xoodoo, words: &[u8], out: &mut [u8], at: &mut usize) -> Xoodoo {
+fn add_byte(x: Xoodoo, words: &[u8], out: &mut impl Write) -> io::Result<Xoodoo> {
     let offset = decimal(first(words));
     let mut b = [0u8; 1];
     if exactly(rest(words), &mut b) && offset.ok {
         let r = x.add_byte(b[0], offset.n);
-        out::number(out, at, r.number);
-        return r.state;
+        out::number(out, r.number)?;
+        return Ok(r.state);
     }
-    out::bad(out, at);
-    x
+    out::bad(out)?;
+    Ok(x)
 }
 
-fn add_bytes(x: Xoodoo, words: &[u8], out: &mut [u8], at: &mut usize) -> Xoodoo {
+fn add_bytes(x: Xoodoo, words: &[u8], out: &mut impl Write) -> io::Result<Xoodoo> {
     let mut buf = space();
     let got = bytes(words, &mut buf);
     let n = got.n;
     if !got.ok {
-        out::bad(out, at);
-        return x;
+        out::bad(out)?;
+        return Ok(x);
     }
     let r = x.add_bytes(&buf[0..n]);
-    out::number(out, at, r.number);
-    r.state
+    out::number(out, r.number)?;
+    Ok(r.state)
 }
 
-fn extract(x: Xoodoo, words: &[u8], out: &mut [u8], at: &mut usize) {
+fn extract(x: Xoodoo, words: &[u8], out: &mut impl Write) -> io::Result<()> {
     let mut buf = space();
     let got = room(words, &buf);
     let n = got.n;
     if !got.ok {
-        out::bad(out, at);
-        return;
+        out::bad(out)?;
+        return Ok(());
     }
     let part = &mut buf[0..n];
     let number = x.extract_bytes(part);
-    out::number_buf(out, at, number, 0, part);
+    out::number_buf(out, number, 0, part)
 }
 
 // So many rounds, there or back.
-fn rounds(x: Xoodoo, words: &[u8], back: bool, out: &mut [u8], at: &mut usize) -> Xoodoo {
+fn rounds(x: Xoodoo, words: &[u8], back: bool, out: &mut impl Write) -> io::Result<Xoodoo> {
     let count = decimal(words);
     if !count.ok {
-        out::bad(out, at);
-        return x;
+        out::bad(out)?;
+        return Ok(x);
     }
     let r = if back {
         x.unrounds(count.n)
     } else {
         x.rounds(count.n)
     };
-    out::number(out, at, r.number);
-    r.state
+    out::number(out, r.number)?;
+    Ok(r.state)
 }
 
-fn state(x: Xoodoo, out: &mut [u8], at: &mut usize) {
+fn state(x: Xoodoo, out: &mut impl Write) -> io::Result<()> {
     let mut st = [0u8; 48];
     x.bytes(&mut st);
-    out::state(out, at, &st);
+    out::state(out, &st)
 }
 
-pub fn answer(x: Xoodoo, line: &[u8], out: &mut [u8], at: &mut usize) -> Xoodoo {
+pub fn answer(x: Xoodoo, line: &[u8], out: &mut impl Write) -> io::Result<Xoodoo> {
     let name = first(line);
     let words = rest(line);
     if same(name, b"x_set") {
-        return set(x, words, out, at);
+        return set(x, words, out);
     }
     if same(name, b"x_add_byte") {
-        return add_byte(x, words, out, at);
+        return add_byte(x, words, out);
     }
     if same(name, b"x_add_bytes") {
-        return add_bytes(x, words, out, at);
+        return add_bytes(x, words, out);
     }
     if same(name, b"x_rounds") {
-        return rounds(x, words, false, out, at);
+        return rounds(x, words, false, out);
     }
     if same(name, b"x_unrounds") {
-        return rounds(x, words, true, out, at);
+        return rounds(x, words, true, out);
     }
     if same(name, b"x_extract") {
-        extract(x, words, out, at);
-        return x;
+        extract(x, words, out)?;
+        return Ok(x);
     }
     if same(line, b"x_state") {
-        state(x, out, at);
-        return x;
+        state(x, out)?;
+        return Ok(x);
     }
     if same(line, b"x_permute") {
-        out::number(out, at, 0);
-        return x.permute();
+        out::number(out, 0)?;
+        return Ok(x.permute());
     }
     if same(line, b"x_inverse") {
-        out::number(out, at, 0);
-        return x.inverse();
+        out::number(out, 0)?;
+        return Ok(x.inverse());
     }
-    out::bad(out, at);
-    x
+    out::bad(out)?;
+    Ok(x)
 }
