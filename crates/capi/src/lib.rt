@@ -1,4 +1,4 @@
-// The port for C and Rust: exported functions over the caller's memory. Here are those of the permutation.
+// The port for C and Rust: calls over the caller's memory, which crates/capi_c exports under the same names. Here are those of the permutation.
 #![tactic(auto)]
 
 pub mod aead;

@@ -77,6 +77,17 @@ pub undo-turn : (m : Mode) (cu r i e colour : ℕ) (x st : List ℕ) → 0 < r �
 undo-turn m cu r i e colour x st p h g q u =
     rw (u, turn-back r i e x p h g q) (sym (blocks_last m cu (cuts r (take i x)) (take (e - i) (drop i x)) st))
 
+-- the same from what the turn made of the 48 bytes
+pub undone-turn : (m : Mode) (cu r i k e : ℕ) {colour : ℕ} (x st : List ℕ) {after : List ℕ}
+    → after ≡ undo m (block_steps colour (take (i + k - i) (drop i x) ∷ [])) st
+    → 0 < r → 0 < e → e ≤ length x → k ≡ (e - 1) % r + 1 → i ≡ e - k → k ≤ e
+    → colour ≡ colour_after cu (cuts r (take i x))
+    → undo m (block_steps cu (cuts r (take i x))) after ≡ undo m (block_steps cu (cuts r (take e x))) st
+undone-turn m cu r i k e {colour} x st a p h g ek ei le u =
+    let q : i + k - i ≡ e - i = omega arith in
+    ap (undo m (block_steps cu (cuts r (take i x)))) (a ∙ ap (λ n. undo m (block_steps colour (take n (drop i x) ∷ [])) st) q)
+    ∙ undo-turn m cu r i e colour x st p h g (omega arith) u
+
 pub undo-turned : (m : Mode) (cu r : ℕ) (x st : List ℕ) → length x ≤ 0 → undo m (block_steps cu (cuts r x)) st ≡ st
 unfolding undo block_steps
 undo-turned m cu r x st h = rw (cuts-nil r x h)
