@@ -1,6 +1,7 @@
 // The lines that seal and open.
 use crate::crypt_lines::{CopyingCall, InPlaceCall, copying, in_place};
 use crate::out;
+use crate::out::Out;
 use crate::session_lines::{Held, bad, hold};
 use crate::words::{bytes, exactly, first, optional, rest, room, space};
 use check::same;
@@ -10,7 +11,7 @@ use xoodyak::aead::plaintext_part;
 use xoodyak::tag::Tag;
 
 // aead_encrypt_detached, and aead_encrypt.
-fn encrypt(h: Held, detached: bool, words: &[u8], out: &mut impl Write) -> io::Result<Held> {
+fn encrypt<W: Write>(h: Held, detached: bool, words: &[u8], out: &mut Out<W>) -> io::Result<Held> {
     let mut store = space();
     let length = room(first(words), &store);
     let n = length.n;
@@ -33,7 +34,7 @@ fn encrypt(h: Held, detached: bool, words: &[u8], out: &mut impl Write) -> io::R
     Ok(hold(r.session, r.spent))
 }
 
-fn decrypt_detached(h: Held, words: &[u8], out: &mut impl Write) -> io::Result<Held> {
+fn decrypt_detached<W: Write>(h: Held, words: &[u8], out: &mut Out<W>) -> io::Result<Held> {
     let after = rest(words);
     let mut store = space();
     let length = room(first(words), &store);
@@ -53,7 +54,11 @@ fn decrypt_detached(h: Held, words: &[u8], out: &mut impl Write) -> io::Result<H
     Ok(hold(r.session, r.spent))
 }
 
-fn encrypt_in_place_detached(h: Held, words: &[u8], out: &mut impl Write) -> io::Result<Held> {
+fn encrypt_in_place_detached<W: Write>(
+    h: Held,
+    words: &[u8],
+    out: &mut Out<W>,
+) -> io::Result<Held> {
     let mut store = space();
     let got = bytes(words, &mut store);
     let n = got.n;
@@ -68,7 +73,11 @@ fn encrypt_in_place_detached(h: Held, words: &[u8], out: &mut impl Write) -> io:
     Ok(hold(r.session, r.spent))
 }
 
-fn decrypt_in_place_detached(h: Held, words: &[u8], out: &mut impl Write) -> io::Result<Held> {
+fn decrypt_in_place_detached<W: Write>(
+    h: Held,
+    words: &[u8],
+    out: &mut Out<W>,
+) -> io::Result<Held> {
     let mut store = space();
     let got = bytes(first(words), &mut store);
     let n = got.n;
@@ -84,12 +93,12 @@ fn decrypt_in_place_detached(h: Held, words: &[u8], out: &mut impl Write) -> io:
     Ok(hold(r.session, r.spent))
 }
 
-fn plaintext(buf: &mut [u8], out: &mut impl Write) -> io::Result<()> {
+fn plaintext<W: Write>(buf: &mut [u8], out: &mut Out<W>) -> io::Result<()> {
     let part = plaintext_part(buf);
     out::last(out, part)
 }
 
-fn decrypt_in_place(h: Held, words: &[u8], out: &mut impl Write) -> io::Result<Held> {
+fn decrypt_in_place<W: Write>(h: Held, words: &[u8], out: &mut Out<W>) -> io::Result<Held> {
     let mut store = space();
     let got = bytes(words, &mut store);
     let n = got.n;
@@ -108,7 +117,7 @@ fn decrypt_in_place(h: Held, words: &[u8], out: &mut impl Write) -> io::Result<H
     Ok(hold(r.session, r.spent))
 }
 
-pub fn answer(h: Held, line: &[u8], out: &mut impl Write) -> io::Result<Held> {
+pub fn answer<W: Write>(h: Held, line: &[u8], out: &mut Out<W>) -> io::Result<Held> {
     let name = first(line);
     let words = rest(line);
     if same(name, b"aead_encrypt_detached") {

@@ -1,4 +1,5 @@
 // The lines that walk one call back, and its step.
+use crate::out::Out;
 use crate::session_lines::{
     Held, KeyCall, MoreCall, SqueezeCall, TakingCall, bad, done, keying, session, taking,
     taking_more,
@@ -116,12 +117,12 @@ fn squeezed(h: Held, p: Phase, how: SqueezeCall, n: usize) -> Before {
     }
 }
 
-fn squeeze(
+fn squeeze<W: Write>(
     h: Held,
     p: Phase,
     how: SqueezeCall,
     words: &[u8],
-    out: &mut impl Write,
+    out: &mut Out<W>,
 ) -> io::Result<Held> {
     let store = space();
     let length = room(words, &store);
@@ -132,7 +133,7 @@ fn squeeze(
 }
 
 // The words after `back`: the phase before the call, and the call.
-pub fn answer(h: Held, line: &[u8], out: &mut impl Write) -> io::Result<Held> {
+pub fn answer<W: Write>(h: Held, line: &[u8], out: &mut Out<W>) -> io::Result<Held> {
     let PhaseWord::Is(p) = phase(first(line)) else {
         return bad(h, out);
     };

@@ -1,5 +1,6 @@
 // The lines that encrypt and decrypt, and the shapes that they share with sealing and opening.
 use crate::out;
+use crate::out::Out;
 use crate::session_lines::{Held, bad, hold};
 use crate::words::{bytes, first, rest, room, space};
 use check::same;
@@ -30,7 +31,12 @@ fn copied(s: Session, how: CopyingCall, buf: &mut [u8], bin: &[u8]) -> Answer {
     }
 }
 
-pub fn copying(h: Held, how: CopyingCall, words: &[u8], out: &mut impl Write) -> io::Result<Held> {
+pub fn copying<W: Write>(
+    h: Held,
+    how: CopyingCall,
+    words: &[u8],
+    out: &mut Out<W>,
+) -> io::Result<Held> {
     let mut store = space();
     let length = room(first(words), &store);
     let n = length.n;
@@ -55,7 +61,12 @@ fn changed(s: Session, how: InPlaceCall, buf: &mut [u8]) -> Answer {
     }
 }
 
-pub fn in_place(h: Held, how: InPlaceCall, words: &[u8], out: &mut impl Write) -> io::Result<Held> {
+pub fn in_place<W: Write>(
+    h: Held,
+    how: InPlaceCall,
+    words: &[u8],
+    out: &mut Out<W>,
+) -> io::Result<Held> {
     let mut store = space();
     let got = bytes(words, &mut store);
     let n = got.n;
@@ -69,7 +80,7 @@ pub fn in_place(h: Held, how: InPlaceCall, words: &[u8], out: &mut impl Write) -
     Ok(hold(r.session, r.spent))
 }
 
-pub fn answer(h: Held, line: &[u8], out: &mut impl Write) -> io::Result<Held> {
+pub fn answer<W: Write>(h: Held, line: &[u8], out: &mut Out<W>) -> io::Result<Held> {
     let name = first(line);
     let words = rest(line);
     if same(name, b"encrypt") {

@@ -1,5 +1,6 @@
 // The lines that hand a message over bit by bit.
 use crate::out;
+use crate::out::Out;
 use crate::session_lines::{Held, bad, done, hold};
 use crate::words::{KindWord, bytes, decimal, exactly, first, kind, rest, room, space};
 use check::same;
@@ -8,7 +9,7 @@ use std::io::Write;
 use xoodyak::feed::Kind;
 use xoodyak::tag::Tag;
 
-fn begin(h: Held, words: &[u8], out: &mut impl Write) -> io::Result<Held> {
+fn begin<W: Write>(h: Held, words: &[u8], out: &mut Out<W>) -> io::Result<Held> {
     let KindWord::Is(k) = kind(words) else {
         return bad(h, out);
     };
@@ -16,7 +17,7 @@ fn begin(h: Held, words: &[u8], out: &mut impl Write) -> io::Result<Held> {
     done(s.begin(k), out)
 }
 
-fn feed(h: Held, k: Kind, words: &[u8], out: &mut impl Write) -> io::Result<Held> {
+fn feed<W: Write>(h: Held, k: Kind, words: &[u8], out: &mut Out<W>) -> io::Result<Held> {
     let after = rest(words);
     let mut store = space();
     let length = room(first(words), &store);
@@ -36,7 +37,7 @@ fn feed(h: Held, k: Kind, words: &[u8], out: &mut impl Write) -> io::Result<Held
     Ok(hold(r.session, r.spent))
 }
 
-fn finish_seal(h: Held, out: &mut impl Write) -> io::Result<Held> {
+fn finish_seal<W: Write>(h: Held, out: &mut Out<W>) -> io::Result<Held> {
     let s = h.session;
     let r = s.finish_seal();
     let tag = r.tag.into_bytes();
@@ -44,7 +45,7 @@ fn finish_seal(h: Held, out: &mut impl Write) -> io::Result<Held> {
     Ok(hold(r.session, r.spent))
 }
 
-fn finish_open(h: Held, word: &[u8], out: &mut impl Write) -> io::Result<Held> {
+fn finish_open<W: Write>(h: Held, word: &[u8], out: &mut Out<W>) -> io::Result<Held> {
     let mut tag = [0u8; 16];
     if !exactly(word, &mut tag) {
         return bad(h, out);
@@ -55,7 +56,7 @@ fn finish_open(h: Held, word: &[u8], out: &mut impl Write) -> io::Result<Held> {
     Ok(hold(r.session, r.spent))
 }
 
-pub fn answer(h: Held, line: &[u8], out: &mut impl Write) -> io::Result<Held> {
+pub fn answer<W: Write>(h: Held, line: &[u8], out: &mut Out<W>) -> io::Result<Held> {
     let name = first(line);
     let words = rest(line);
     if same(line, b"finish seal") {

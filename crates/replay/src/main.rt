@@ -14,9 +14,10 @@ mod xoodoo_lines;
 ghost use Rattle.std.specs.Prelude.{◌≡◌, length};
 
 use check::same;
+use out::Out;
 use session_lines::{Held, hold};
 use std::io;
-use std::io::{BufWriter, Read, Write};
+use std::io::{Read, Write};
 use words::{RuleWord, begins, first, rest, rule};
 use xoodoo::Xoodoo;
 use xoodyak::{Rule, Session};
@@ -75,7 +76,7 @@ fn front<'a>(text: &'a [u8], n: usize) -> &'a [u8] {
     if n < text.len() { &text[0..n] } else { text }
 }
 
-fn set_rule(m: State, word: &[u8], out: &mut impl Write) -> io::Result<State> {
+fn set_rule<W: Write>(m: State, word: &[u8], out: &mut Out<W>) -> io::Result<State> {
     let RuleWord::Is(r) = rule(word) else {
         out::bad(out)?;
         return Ok(m);
@@ -84,7 +85,7 @@ fn set_rule(m: State, word: &[u8], out: &mut impl Write) -> io::Result<State> {
     Ok(m.with_rule(r))
 }
 
-fn answer(m: State, text: &[u8], n: usize, out: &mut impl Write) -> io::Result<State> {
+fn answer<W: Write>(m: State, text: &[u8], n: usize, out: &mut Out<W>) -> io::Result<State> {
     let line = front(text, n);
     if line.len() == 0 {
         return Ok(m);
@@ -126,7 +127,7 @@ fn answer(m: State, text: &[u8], n: usize, out: &mut impl Write) -> io::Result<S
 }
 
 // Gathers the byte into the line, or answers the line that it ends.
-fn take(m: State, b: u8, line: &mut [u8], out: &mut impl Write) -> io::Result<State> {
+fn take<W: Write>(m: State, b: u8, line: &mut [u8], out: &mut Out<W>) -> io::Result<State> {
     let mut m = m;
     let n = m.come;
     if b == b'\n' {
@@ -140,7 +141,12 @@ fn take(m: State, b: u8, line: &mut [u8], out: &mut impl Write) -> io::Result<St
     Ok(m)
 }
 
-fn take_all(m: State, bytes: &[u8], line: &mut [u8], out: &mut impl Write) -> io::Result<State> {
+fn take_all<W: Write>(
+    m: State,
+    bytes: &[u8],
+    line: &mut [u8],
+    out: &mut Out<W>,
+) -> io::Result<State> {
     let mut m = m;
     for b in bytes {
         m = take(m, *b, line, out)?;
@@ -149,7 +155,7 @@ fn take_all(m: State, bytes: &[u8], line: &mut [u8], out: &mut impl Write) -> io
 }
 
 // A proved loop has to end, and nothing says that the input does: no run uses up so many turns.
-fn replay(from: &mut impl Read, out: &mut impl Write) -> io::Result<()> {
+fn replay<W: Write>(from: &mut impl Read, out: &mut Out<W>) -> io::Result<()> {
     let mut buf = [0u8; 65536];
     let mut line = line_space();
     let mut m = State::start();
@@ -166,6 +172,6 @@ fn replay(from: &mut impl Read, out: &mut impl Write) -> io::Result<()> {
 }
 
 fn main(rt: HostRuntime) -> io::Result<()> {
-    let mut out = BufWriter::new(rt.alloc(), io::writer(&rt))?;
+    let mut out = Out::new(io::writer(&rt));
     replay(&mut rt.reader(), &mut out)
 }

@@ -1,4 +1,5 @@
 // The lines that make, show and advance the session.
+use crate::out::Out;
 use crate::words::{
     ModeWord, PhaseWord, bytes, decimal, exactly, first, key_words, mode, phase, rest, room, space,
 };
@@ -54,13 +55,13 @@ pub fn hold(s: Session, spent: usize) -> Held {
     }
 }
 
-pub fn bad(h: Held, out: &mut impl Write) -> io::Result<Held> {
+pub fn bad<W: Write>(h: Held, out: &mut Out<W>) -> io::Result<Held> {
     out::bad(out)?;
     Ok(h)
 }
 
 // An answer that is its number alone.
-pub fn done(r: Answer, out: &mut impl Write) -> io::Result<Held> {
+pub fn done<W: Write>(r: Answer, out: &mut Out<W>) -> io::Result<Held> {
     out::number(out, r.number)?;
     Ok(hold(r.session, r.spent))
 }
@@ -86,7 +87,7 @@ fn none_begun() -> Message {
     }
 }
 
-fn set(h: Held, words: &[u8], out: &mut impl Write) -> io::Result<Held> {
+fn set<W: Write>(h: Held, words: &[u8], out: &mut Out<W>) -> io::Result<Held> {
     let after = rest(words);
     let mut st = [0u8; 48];
     let whole = exactly(rest(after), &mut st);
@@ -105,14 +106,14 @@ fn set(h: Held, words: &[u8], out: &mut impl Write) -> io::Result<Held> {
     Ok(hold(session(st, m, p, rule, none_begun()), h.spent))
 }
 
-fn mode_name(out: &mut impl Write, m: Mode) -> io::Result<()> {
+fn mode_name<W: Write>(out: &mut Out<W>, m: Mode) -> io::Result<()> {
     match m {
         Mode::Hash => out::text(out, b"hash "),
         Mode::Keyed => out::text(out, b"keyed "),
     }
 }
 
-fn phase_name(out: &mut impl Write, p: Phase) -> io::Result<()> {
+fn phase_name<W: Write>(out: &mut Out<W>, p: Phase) -> io::Result<()> {
     match p {
         Phase::Up => out::text(out, b"up "),
         Phase::Down => out::text(out, b"down "),
@@ -120,7 +121,7 @@ fn phase_name(out: &mut impl Write, p: Phase) -> io::Result<()> {
 }
 
 // The session's own rule.
-pub fn own_rule(s: Session, out: &mut impl Write) -> io::Result<()> {
+pub fn own_rule<W: Write>(s: Session, out: &mut Out<W>) -> io::Result<()> {
     let rule = s.rule;
     match rule {
         Rule::Crate => out::text(out, b"crate\n"),
@@ -128,7 +129,7 @@ pub fn own_rule(s: Session, out: &mut impl Write) -> io::Result<()> {
     }
 }
 
-fn state(s: Session, out: &mut impl Write) -> io::Result<()> {
+fn state<W: Write>(s: Session, out: &mut Out<W>) -> io::Result<()> {
     let d = s.duplex;
     let m = d.mode;
     let p = d.phase;
@@ -190,7 +191,7 @@ fn keyed<'a>(
     }
 }
 
-pub fn keying(h: Held, how: KeyCall, words: &[u8], out: &mut impl Write) -> io::Result<Held> {
+pub fn keying<W: Write>(h: Held, how: KeyCall, words: &[u8], out: &mut Out<W>) -> io::Result<Held> {
     let mut key = space();
     let mut second = space();
     let mut third = space();
@@ -227,7 +228,12 @@ fn taken(h: Held, how: TakingCall, bin: &[u8]) -> Answer {
     }
 }
 
-pub fn taking(h: Held, how: TakingCall, words: &[u8], out: &mut impl Write) -> io::Result<Held> {
+pub fn taking<W: Write>(
+    h: Held,
+    how: TakingCall,
+    words: &[u8],
+    out: &mut Out<W>,
+) -> io::Result<Held> {
     let mut bin = space();
     let got = bytes(words, &mut bin);
     let n = got.n;
@@ -245,7 +251,12 @@ fn taken_more(h: Held, how: MoreCall, bin: &[u8], rate: usize) -> Answer {
     }
 }
 
-pub fn taking_more(h: Held, how: MoreCall, words: &[u8], out: &mut impl Write) -> io::Result<Held> {
+pub fn taking_more<W: Write>(
+    h: Held,
+    how: MoreCall,
+    words: &[u8],
+    out: &mut Out<W>,
+) -> io::Result<Held> {
     let mut bin = space();
     let got = bytes(first(words), &mut bin);
     let n = got.n;
@@ -264,7 +275,12 @@ fn squeezed(s: Session, how: SqueezeCall, buf: &mut [u8]) -> Answer {
     }
 }
 
-fn squeeze(h: Held, how: SqueezeCall, words: &[u8], out: &mut impl Write) -> io::Result<Held> {
+fn squeeze<W: Write>(
+    h: Held,
+    how: SqueezeCall,
+    words: &[u8],
+    out: &mut Out<W>,
+) -> io::Result<Held> {
     let mut store = space();
     let got = room(words, &store);
     let n = got.n;
@@ -278,7 +294,7 @@ fn squeeze(h: Held, how: SqueezeCall, words: &[u8], out: &mut impl Write) -> io:
     Ok(hold(r.session, r.spent))
 }
 
-fn verify(words: &[u8], out: &mut impl Write) -> io::Result<()> {
+fn verify<W: Write>(words: &[u8], out: &mut Out<W>) -> io::Result<()> {
     let mut one = [0u8; 16];
     let mut other = [0u8; 16];
     if exactly(first(words), &mut one) && exactly(rest(words), &mut other) {
@@ -290,7 +306,7 @@ fn verify(words: &[u8], out: &mut impl Write) -> io::Result<()> {
 }
 
 // A session made new has the rule given.
-pub fn answer(h: Held, rule: Rule, line: &[u8], out: &mut impl Write) -> io::Result<Held> {
+pub fn answer<W: Write>(h: Held, rule: Rule, line: &[u8], out: &mut Out<W>) -> io::Result<Held> {
     let s = h.session;
     let name = first(line);
     let words = rest(line);

@@ -1,12 +1,13 @@
 // The lines that call the permutation's layer.
 use crate::out;
+use crate::out::Out;
 use crate::words::{bytes, decimal, exactly, first, rest, room, space};
 use check::same;
 use std::io;
 use std::io::Write;
 use xoodoo::Xoodoo;
 
-fn set(x: Xoodoo, words: &[u8], out: &mut impl Write) -> io::Result<Xoodoo> {
+fn set<W: Write>(x: Xoodoo, words: &[u8], out: &mut Out<W>) -> io::Result<Xoodoo> {
     let mut st = [0u8; 48];
     if exactly(words, &mut st) {
         out::number(out, 0)?;
@@ -16,7 +17,7 @@ fn set(x: Xoodoo, words: &[u8], out: &mut impl Write) -> io::Result<Xoodoo> {
     Ok(x)
 }
 
-fn add_byte(x: Xoodoo, words: &[u8], out: &mut impl Write) -> io::Result<Xoodoo> {
+fn add_byte<W: Write>(x: Xoodoo, words: &[u8], out: &mut Out<W>) -> io::Result<Xoodoo> {
     let offset = decimal(first(words));
     let mut b = [0u8; 1];
     if exactly(rest(words), &mut b) && offset.ok {
@@ -28,7 +29,7 @@ fn add_byte(x: Xoodoo, words: &[u8], out: &mut impl Write) -> io::Result<Xoodoo>
     Ok(x)
 }
 
-fn add_bytes(x: Xoodoo, words: &[u8], out: &mut impl Write) -> io::Result<Xoodoo> {
+fn add_bytes<W: Write>(x: Xoodoo, words: &[u8], out: &mut Out<W>) -> io::Result<Xoodoo> {
     let mut buf = space();
     let got = bytes(words, &mut buf);
     let n = got.n;
@@ -41,7 +42,7 @@ fn add_bytes(x: Xoodoo, words: &[u8], out: &mut impl Write) -> io::Result<Xoodoo
     Ok(r.state)
 }
 
-fn extract(x: Xoodoo, words: &[u8], out: &mut impl Write) -> io::Result<()> {
+fn extract<W: Write>(x: Xoodoo, words: &[u8], out: &mut Out<W>) -> io::Result<()> {
     let mut buf = space();
     let got = room(words, &buf);
     let n = got.n;
@@ -55,7 +56,7 @@ fn extract(x: Xoodoo, words: &[u8], out: &mut impl Write) -> io::Result<()> {
 }
 
 // So many rounds, there or back.
-fn rounds(x: Xoodoo, words: &[u8], back: bool, out: &mut impl Write) -> io::Result<Xoodoo> {
+fn rounds<W: Write>(x: Xoodoo, words: &[u8], back: bool, out: &mut Out<W>) -> io::Result<Xoodoo> {
     let count = decimal(words);
     if !count.ok {
         out::bad(out)?;
@@ -70,13 +71,13 @@ fn rounds(x: Xoodoo, words: &[u8], back: bool, out: &mut impl Write) -> io::Resu
     Ok(r.state)
 }
 
-fn state(x: Xoodoo, out: &mut impl Write) -> io::Result<()> {
+fn state<W: Write>(x: Xoodoo, out: &mut Out<W>) -> io::Result<()> {
     let mut st = [0u8; 48];
     x.bytes(&mut st);
     out::state(out, &st)
 }
 
-pub fn answer(x: Xoodoo, line: &[u8], out: &mut impl Write) -> io::Result<Xoodoo> {
+pub fn answer<W: Write>(x: Xoodoo, line: &[u8], out: &mut Out<W>) -> io::Result<Xoodoo> {
     let name = first(line);
     let words = rest(line);
     if same(name, b"x_set") {
