@@ -13,8 +13,9 @@ help:
 	@echo 'make rust    the drop-in crate beside the original (CALLS, SEEDS), its examples, and the C program under valgrind'
 
 demo:
-	@echo 'proving what the demonstration needs: some minutes the first time' >&2
-	@cd crates/demo && rt run
+	@mkdir -p target
+	@echo 'proving what the demonstration needs: some minutes the first time'
+	@cd crates/demo && rt run 2> ../../target/demo.log || { cat ../../target/demo.log; exit 1; }
 
 checks:
 	python3 tools/promises.py

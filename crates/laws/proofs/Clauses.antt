@@ -4,9 +4,3 @@ as_value_and_out_after p = record { value = p.0; out_after = p.1 }
 
 pub as_value_and_in_out_after : {A B : Type 0} → A × B → record { value : A; in_out_after : B }
 as_value_and_in_out_after p = record { value = p.0; in_out_after = p.1 }
-
-pub as_value_and_buf_after : {A B : Type 0} → A × B → record { value : A; buf_after : B }
-as_value_and_buf_after p = record { value = p.0; buf_after = p.1 }
-
-pub as_result_value_and_buf_after : {A B : Type 0} → A × B → record { result_value : A; buf_after : B }
-as_result_value_and_buf_after p = record { result_value = p.0; buf_after = p.1 }

@@ -15,15 +15,7 @@ use Rattle.xoodyak.specs.Cyclist.{absorb_rate}
 use Rattle.xoodyak.specs.Numbers.{when, first, key_number, rate_number}
 use Rattle.walkback.specs.declared.Before.{Before}
 use Rattle.walkback.proofs.Undoing.{absorb-rate-le}
-use Rattle.walkback.specs.Walk.{unless_empty, settled, Call, call_number, back, before_of}
-
-pub first_pos : (a b : ℕ) → 0 < a → first a b ≡ a
-first_pos zero b h = absurd (not-suc-le-zero h)
-first_pos (suc a) b h = refl
-
-pub unless-pos : (n : ℕ) (p q : Phase) → 0 < n → unless_empty n p q ≡ q
-unless-pos zero p q h = absurd (not-suc-le-zero h)
-unless-pos (suc n) p q h = refl
+use Rattle.walkback.specs.Walk.{settled, Call, call_number, back, before_of}
 
 -- the key alone exceeds 43; key and key id do; only the nonce breaks it; or nothing does
 module _ (k i n : ℕ) where

@@ -2,28 +2,22 @@
 use mathlib.Core.Path.{◌≡◌, refl, sym, ap, ◌∙◌}
 use mathlib.Core.List.{List, [], ◌∷◌, append-nil}
 use Prim.Native.Nat.{ℕ, ◌+◌, ◌*◌, ◌/◌, ◌%◌, ◌^◌, ◌≤◌, ◌<◌}
-use native.Mathlib.Nat.{add-zero}
 use native.Mathlib.Omega.{arith}
 use lib.Dec.{lit≤}
-use lib.ListN.{length, get_or, take, drop, replicate, length-drop, drop_of_length-le}
-use lib.Seq.{take_all, get_or-drop, sets, sets-eq}
+use lib.ListN.{length, take, drop, replicate, drop_of_length-le}
+use lib.Seq.{take_all, sets, sets-eq}
 use Rattle.xoodoo.specs.Xoodoo.{word_of, word_at, byte_of, word_bytes, plane_bytes}
 use Rattle.xoodoo.specs.Words.{six_bytes, eleven_bytes}
 use Rattle.xoodoo.specs.declared.round.Plane.{Plane}
 use Rattle.xoodoo.specs.declared.words.Six.{Six}
 use Rattle.xoodoo.specs.declared.words.Eleven.{Eleven}
-use Rattle.xoodoo.proofs.Bytes.{four, join, word-at-back, stored-plane, plane-size}
+use Rattle.xoodoo.proofs.Bytes.{join, word-at-back, stored-plane, plane-size}
 
 -- ---- words that are read
 -- the sum that makes a word of four bytes
 pub word-of : {a b c d : ℕ} → a < 256 → b < 256 → c < 256 → d < 256 → word_bytes (a + b * 0x100 + c * 0x10000 + d * 0x1000000) ≡ a ∷ b ∷ c ∷ d ∷ []
 unfolding word_at word_of
 word-of {a} {b} {c} {d} ha hb hc hd = word-at-back (a ∷ b ∷ c ∷ d ∷ []) 0 (ha, (hb, (hc, (hd, tt)))) (lit≤ tt)
-
--- the four bytes from i on, read one by one
-pub four-at : (b : List ℕ) (i : ℕ) → i + 4 ≤ length b
-    → take 4 (drop i b) ≡ get_or b i 0 ∷ get_or b (i + 1) 0 ∷ get_or b (i + 2) 0 ∷ get_or b (i + 3) 0 ∷ []
-four-at b i h = four (drop i b) (omega (arith, length-drop i b)) ∙ simp (get_or-drop, add-zero)
 
 -- the four bytes of w are those of b from i on
 abbrev pub At : List ℕ → ℕ → ℕ → Type 0

@@ -1,6 +1,6 @@
 -- A run inside a block, all its bytes at once, and one that is a whole block, from its Up on.
 use mathlib.Core.Path.{◌≡◌, refl, sym, ap, ap₂, ◌∙◌}
-use mathlib.Core.Bool.{Bool, true, false}
+use mathlib.Core.Bool.{false}
 use mathlib.Core.List.{List, [], ◌∷◌, ◌++◌, append_assoc}
 use Prim.Native.Nat.{ℕ, zero, suc, ◌+◌, ◌-◌, ◌≤◌, min}
 use native.Mathlib.Nat.{not-suc-le-zero, le_of_suc-le-suc}
@@ -20,7 +20,7 @@ use Rattle.xoodyak.specs.declared.cyclist.Duplex.{Duplex}
 use Rattle.xoodyak.specs.declared.feed.Kind.{Kind}
 use Rattle.xoodyak.specs.declared.feed.Kind.TheVariants.{Seal, Open}
 use Rattle.xoodyak.specs.Cyclist.{up}
-use Rattle.xoodyak.specs.Feed.{is_open, place_in, close_block, open_block, plain_of, put, run_end, run_out}
+use Rattle.xoodyak.specs.Feed.{is_open, close_block, open_block, plain_of, put, run_end, run_out}
 use Rattle.xoodyak.proofs.BlockWords.{held, up_is}
 use Rattle.xoodyak.proofs.Feeding.{open_is, place-later}
 
@@ -128,11 +128,6 @@ open-later p d e h =
     let g : 24 ≤ p = ltb-false p 24 (open_is p h ∙ e) in
     let n : min p 24 ≡ 24 = omega arith in
     ap (λ (t : Duplex). t.st) (place-later p d h ∙ up_is d.mode (add_at d.st (min p 24) 1)) ∙ rw n
-
--- a run of a whole block's length begins its block
-pub whole-begins : (fits : Bool) (p n : ℕ) → fits ≡ is_open p → place_in fits p + n ≤ 24 → n ≡ 24 → fits ≡ false
-whole-begins true p n e h l = let z : p ≡ 0 = omega arith in e ∙ ap is_open z
-whole-begins false p n e h l = refl
 
 -- a whole block that meets s, the bytes after its Up
 module _ (kind : Kind) (p : ℕ) (d : Duplex) (x s : List ℕ) (e : s ≡ (open_block p d).st) (l : length x ≤ length s) where

@@ -1,15 +1,8 @@
 -- Absorb is never refused, and its steps are undone at the absorb rate of the mode.
 use mathlib.Core.Path.{refl}
-use native.Mathlib.Omega.{arith}
 use Rattle.walkback.specs.Walk.{absorbs, call_number, steps, back}
-use Rattle.walkback.proofs.Undoing.{absorb-rate-pos, absorb-rate-le}
 use Rattle.walkback.proofs.Settling.{before-taken}
 use Rattle.walkback.proofs.absorb.Goals as goal
-
-pub undo_absorb-requires : goal.undo_absorb-requires
-undo_absorb-requires c =
-    let m = c.args.mode in
-    (omega (arith, absorb-rate-pos m), omega (arith, absorb-rate-le m))
 
 pub returns : goal.returns
 unfolding call_number steps back

@@ -18,18 +18,6 @@ mk b = record { st = b }
 pub loop-i-init : goal.loop-i-init
 loop-i-init c = (omega arith, λ s e. e ∙ ap (add_front s) (sym (key-first _ _)))
 
-pub bounds-t-i : goal.bounds-t-i
-bounds-t-i c = omega arith
-
-pub overflow_add-k : goal.overflow_add-k
-overflow_add-k c = omega arith
-
-pub overflow_add-i : goal.overflow_add-i
-overflow_add-i c = omega arith
-
-pub loop-i-smaller : goal.loop-i-smaller
-loop-i-smaller c = omega arith
-
 pub loop-i-preserved : goal.loop-i-preserved
 unfolding add_byte_of
 loop-i-preserved c =
@@ -41,12 +29,6 @@ loop-i-preserved c =
           ap (λ r. r.state.st) c.add_byte.ensures
           ∙ rw (le-leb (length a.key.now + i) 47 h, c.loop-i.invariant.1 s e) (key-next s a.key.now a.t.now i (omega arith)),
     )
-
-pub overflow_cast-n : goal.overflow_cast-n
-overflow_cast-n c = omega arith
-
-pub overflow_add-k-2 : goal.overflow_add-k-2
-overflow_add-k-2 c = omega arith
 
 pub returns : goal.returns
 unfolding add_byte_of add_bytes_of

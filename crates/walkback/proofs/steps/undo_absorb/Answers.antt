@@ -1,17 +1,10 @@
 -- The later blocks were absorbed last, so they are undone first; then the first block, and then the Up before it.
-use mathlib.Core.Path.{sym}
 use Prim.Native.Nat.{◌-◌, ◌≤◌}
 use native.Mathlib.Omega.{arith}
-use lib.ListN.{length, drop, length-take, length-drop}
-use lib.Seq.{length-take-le, take_all}
+use lib.ListN.{length, drop, length-drop}
+use lib.Seq.{take_all}
 use Rattle.walkback.proofs.Undoing.{absorb-undone}
 use Rattle.walkback.proofs.steps.undo_absorb.Goals as goal
-
-pub slice_bounds-undo_down-end : goal.slice_bounds-undo_down-end
-slice_bounds-undo_down-end c = sym (length-take-le _ _ (omega arith))
-
-pub undo_down-requires : goal.undo_down-requires
-undo_down-requires c = simp length-take (omega arith)
 
 pub returns : goal.returns
 returns c =

@@ -4,7 +4,6 @@ use Prim.Native.Nat.{ℕ, ◌+◌, ◌-◌, ◌%◌, ◌<◌, ◌≤◌}
 use native.Mathlib.Nat.{mod-le, mod-lt}
 use native.Mathlib.Omega.{arith}
 use lib.ListN.{take, length-take}
-use lib.Seq.{take-length}
 use Rattle.walkback.proofs.Undoing.{colour-first, colour-other, undone-turn, undo-turned}
 use Rattle.walkback.proofs.steps.undo_blocks.Goals as goal
 
@@ -14,44 +13,6 @@ last-size e r k p q ek =
     let h : (e - 1) % r ≤ e - 1 = mod-le (e - 1) r in
     let g : (e - 1) % r < r = mod-lt (e - 1) q in
     (omega arith, omega arith, omega arith)
-
-pub loop-left-init : goal.loop-left-init
-loop-left-init c = (omega arith, rw take-length)
-
-pub overflow_sub-i : goal.overflow_sub-i
-overflow_sub-i c =
-    let size = last-size c.loop-left.left c.args.rate c.last_block-k.result (omega arith) (omega arith) c.last_block-k.ensures in
-    omega (arith, size)
-
-pub overflow_add-e : goal.overflow_add-e
-overflow_add-e c =
-    let size = last-size c.loop-left.left c.args.rate c.last_block-k.result (omega arith) (omega arith) c.last_block-k.ensures in
-    omega (arith, size)
-
-pub slice_bounds-undo_block-start : goal.slice_bounds-undo_block-start
-slice_bounds-undo_block-start c =
-    let size = last-size c.loop-left.left c.args.rate c.last_block-k.result (omega arith) (omega arith) c.last_block-k.ensures in
-    omega (arith, size)
-
-pub slice_bounds-undo_block-end : goal.slice_bounds-undo_block-end
-slice_bounds-undo_block-end c =
-    let size = last-size c.loop-left.left c.args.rate c.last_block-k.result (omega arith) (omega arith) c.last_block-k.ensures in
-    omega (arith, size)
-
-pub undo_block-requires : goal.undo_block-requires
-undo_block-requires c =
-    let size = last-size c.loop-left.left c.args.rate c.last_block-k.result (omega arith) (omega arith) c.last_block-k.ensures in
-    simp length-take (omega (arith, size))
-
-pub overflow_sub-left : goal.overflow_sub-left
-overflow_sub-left c =
-    let size = last-size c.loop-left.left c.args.rate c.last_block-k.result (omega arith) (omega arith) c.last_block-k.ensures in
-    omega (arith, size)
-
-pub loop-left-smaller : goal.loop-left-smaller
-loop-left-smaller c =
-    let size = last-size c.loop-left.left c.args.rate c.last_block-k.result (omega arith) (omega arith) c.last_block-k.ensures in
-    omega (arith, size)
 
 pub loop-left-preserved : goal.loop-left-preserved
 loop-left-preserved c =

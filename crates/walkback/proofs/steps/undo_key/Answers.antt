@@ -1,5 +1,5 @@
 -- Counter, nonce and key were absorbed in the other order; key, t and the length of t make one block.
-use mathlib.Core.Path.{◌≡◌, ap, ◌∙◌}
+use mathlib.Core.Path.{◌≡◌, ◌∙◌}
 use Prim.Native.Nat.{◌+◌}
 use native.Mathlib.Omega.{arith}
 use lib.ListN.{length}
@@ -11,16 +11,6 @@ use Rattle.walkback.specs.Walk.{if_steps, key_run}
 use Rattle.walkback.proofs.Undoing.{if-true, if-false, key-undone, absorb-one, length_run, chosen-length}
 use Rattle.walkback.proofs.steps.undo_key.Goals as goal
 use Rattle.walkback.proofs.steps.undo_key.Goals.{then-has_counter, else-has_counter, then-has_id, else-has_id}
-
-pub add_key-requires : goal.add_key-requires
-add_key-requires c =
-    let a = c.args in
-    omega (arith, chosen-length a.has_id a.id.now a.nonce.now, ap length c.choose-t.ensures)
-
-pub undo_padding-requires : goal.undo_padding-requires
-undo_padding-requires c =
-    let a = c.args in
-    omega (arith, chosen-length a.has_id a.id.now a.nonce.now, ap length c.choose-t.ensures)
 
 pub returns : goal.returns
 unfolding undoes down_bytes

@@ -1,16 +1,7 @@
 -- The rule tells whether the message is one empty block; where it is not, its blocks are those of the loop.
-use mathlib.Core.Path.{◌≡◌, sym, ap, ◌∙◌}
-use native.Mathlib.Omega.{arith}
-use lib.ListN.{length}
+use mathlib.Core.Path.{sym, ◌∙◌}
 use Rattle.xoodyak.proofs.Message.{message-empty, message-cuts}
 use Rattle.walkback.proofs.steps.undo_message.Goals as goal
-
-pub undo_block-requires : goal.undo_block-requires
-undo_block-requires c =
-    let a = c.args in
-    let e = message-empty a.rule a.plaintext.now (sym c.is_empty_block.ensures ∙ c.if-is_empty_block.true) in
-    let l : length a.plaintext.now ≡ 0 = ap length e.1 in
-    omega arith
 
 pub returns-then-is_empty_block : goal.returns-then-is_empty_block
 returns-then-is_empty_block c =

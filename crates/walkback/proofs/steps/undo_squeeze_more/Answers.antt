@@ -1,17 +1,10 @@
 -- The blocks of a squeeze are all alike, so that undoing one leaves the squeeze of what is left.
-use mathlib.Core.Path.{refl, sym, ap, ◌∙◌}
+use mathlib.Core.Path.{sym, ap, ◌∙◌}
 use Prim.Native.Nat.{◌-◌}
 use native.Mathlib.Omega.{arith}
-use Rattle.xoodyak.proofs.Turns.{rate-pos}
 use Rattle.walkback.specs.Steps.{undo, squeeze_more_steps}
 use Rattle.walkback.proofs.Undoing.{more_turn, more-turned}
 use Rattle.walkback.proofs.steps.undo_squeeze_more.Goals as goal
-
-pub loop-left-init : goal.loop-left-init
-loop-left-init c = refl
-
-pub loop-left-smaller : goal.loop-left-smaller
-loop-left-smaller c = omega (arith, rate-pos c.args.mode)
 
 pub loop-left-preserved : goal.loop-left-preserved
 loop-left-preserved c =

@@ -9,9 +9,6 @@ use Rattle.xoodoo.specs.Calls.{extract_bytes_of}
 use Rattle.xoodoo.proofs.Runs.{copy-next, copy-all}
 use Rattle.xoodoo.proofs.Xoodoo.extract_bytes.Goals as goal
 
-pub loop-i-init : goal.loop-i-init
-loop-i-init c = (omega arith, refl, refl)
-
 pub loop-i-preserved : goal.loop-i-preserved
 loop-i-preserved c =
     let h : length c.args.self.st ≡ 48 = search rules in (

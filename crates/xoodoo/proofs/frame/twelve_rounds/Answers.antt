@@ -1,5 +1,5 @@
 -- The rounds that are left, of the plain state now, are all twelve of the first state.
-use mathlib.Core.Path.{◌≡◌, refl, sym, ap, ◌∙◌}
+use mathlib.Core.Path.{◌≡◌, sym, ap, ◌∙◌}
 use Prim.Native.Nat.{◌+◌}
 use native.Mathlib.Omega.{arith}
 use lib.ListN.{drop}
@@ -11,11 +11,6 @@ use Rattle.xoodoo.proofs.Inverse.{constant-lt}
 use Rattle.xoodoo.proofs.Nots.{one, not_good, twice, quick-good}
 use Rattle.xoodoo.proofs.Walk.{rounds-four, rounds-end}
 use Rattle.xoodoo.proofs.frame.twelve_rounds.Goals as goal
-
-pub loop-i-init : goal.loop-i-init
-loop-i-init c =
-    let begun : Good c.args.s = known c.args.s _ c.well_formed.0 in
-    (omega arith, refl, rw c.not_one-t.ensures (not_good one begun), refl)
 
 pub loop-i-preserved : goal.loop-i-preserved
 unfolding constants

@@ -8,12 +8,6 @@ pub returns-then-number-ne0 : goal.returns-then-number-ne0
 unfolding absorb_of
 returns-then-number-ne0 c = answer-refused _ _ c.unfinished_number-number.ensures _ _ _ _ answer_of _ c.if-number-ne0.true c.answer.ensures
 
-pub absorb_any-requires : goal.absorb_any-requires
-absorb_any-requires c = rw c.absorb_rate-rate.ensures (absorb-rate-fits c.args.self.duplex.mode)
-
-pub absorb_share-requires : goal.absorb_share-requires
-absorb_share-requires c = rw c.absorb_rate-rate.ensures (absorb-rate-fits c.args.self.duplex.mode).0
-
 pub returns : goal.returns
 unfolding absorb_of
 returns c =

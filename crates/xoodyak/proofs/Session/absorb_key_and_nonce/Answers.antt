@@ -1,8 +1,9 @@
 -- Refused in Hash, or where the lengths are too much; otherwise the key call on the session.
-use mathlib.Core.Path.{◌≡◌, ◌∙◌}
+use mathlib.Core.Path.{ap₂, ◌∙◌}
+use mathlib.Core.List.{List}
+use Prim.Native.Nat.{ℕ}
 use lib.ListN.{length}
-use Rattle.xoodyak.specs.Cyclist.{given}
-use Rattle.xoodyak.specs.Numbers.{first, keyed_number, key_number}
+use Rattle.xoodyak.specs.Numbers.{first, key_number}
 use Rattle.xoodyak.specs.Calls.{answer_of, key_of}
 use Rattle.xoodyak.proofs.Costs.{key-share}
 use Rattle.xoodyak.proofs.Settle.{answer-taken, answer-refused, second-zero, key_fits}
@@ -11,7 +12,8 @@ use Rattle.xoodyak.proofs.Session.absorb_key_and_nonce.Goals as goal
 pub returns-then-number-ne0 : goal.returns-then-number-ne0
 unfolding key_of
 returns-then-number-ne0 c =
-    let number : let a = c.args in c.first-number.result ≡ first (keyed_number a.self) (key_number (length a.key.now) (length (given a.has_id a.id.now)) (length (given a.has_nonce a.nonce.now))) = c.first-number.ensures ∙ rw (c.keyed_number.ensures, c.key_number.ensures, c.or_empty-i.ensures, c.or_empty-m.ensures) in
+    let lengths = ap₂ (λ (i m : List ℕ). key_number (length c.args.key.now) (length i) (length m)) c.or_empty-i.ensures c.or_empty-m.ensures in
+    let number = c.first-number.ensures ∙ ap₂ first c.keyed_number.ensures (c.key_number.ensures ∙ lengths) in
     answer-refused _ _ number _ _ _ _ answer_of _ c.if-number-ne0.true c.answer.ensures
 
 pub key_call-requires : goal.key_call-requires
@@ -27,6 +29,7 @@ key_share-requires c =
 pub returns : goal.returns
 unfolding key_of
 returns c =
-    let number : let a = c.args in c.first-number.result ≡ first (keyed_number a.self) (key_number (length a.key.now) (length (given a.has_id a.id.now)) (length (given a.has_nonce a.nonce.now))) = c.first-number.ensures ∙ rw (c.keyed_number.ensures, c.key_number.ensures, c.or_empty-i.ensures, c.or_empty-m.ensures) in
+    let lengths = ap₂ (λ (i m : List ℕ). key_number (length c.args.key.now) (length i) (length m)) c.or_empty-i.ensures c.or_empty-m.ensures in
+    let number = c.first-number.ensures ∙ ap₂ first c.keyed_number.ensures (c.key_number.ensures ∙ lengths) in
     answer-taken _ _ number _ _ _ _ answer_of _ c.if-number-ne0.false
     (rw (c.paid.ensures, c.key_share.ensures, c.onward.ensures, c.key_call.ensures, c.or_empty-i.ensures, c.or_empty-m.ensures, key-share))

@@ -1,14 +1,14 @@
 -- All but the last 16 bytes of the input are copied and decrypted; the tag squeezed then decides whether that stands or the whole output becomes zero.
-use mathlib.Core.Path.{◌≡◌, refl, sym, ap, ap₂, ◌∙◌}
+use mathlib.Core.Path.{refl, sym, ap, ap₂, ◌∙◌}
 use mathlib.Core.List.{◌++◌}
-use Prim.Native.Nat.{◌-◌, ◌≤◌}
+use Prim.Native.Nat.{◌-◌}
 use native.Mathlib.Omega.{arith}
-use lib.ListN.{length, replicate, drop, take, length-drop, length-replicate, length-take}
+use lib.ListN.{length, drop, take, length-drop, length-take}
 use lib.Seq.{length-take-le, take_all}
 use native.Mathlib.Nat.{le_refl}
 use borrow.Author.Rules.{rules}
-use Rattle.xoodyak.specs.Numbers.{first, keyed_number, room_number, tail_number}
-use Rattle.xoodyak.specs.Calls.{Outcome, answer_of, verdict, open_of, open_ups}
+use Rattle.xoodyak.specs.Numbers.{first}
+use Rattle.xoodyak.specs.Calls.{Outcome, answer_of}
 use Rattle.xoodyak.proofs.Costs.{open-cost}
 use Rattle.xoodyak.proofs.Settle.{room_fits, before-room}
 use Rattle.xoodyak.proofs.Sealing.{long, earlier, later, open-refused, relaid, zeroed-whole, open-copy, same, differs}
@@ -16,100 +16,61 @@ use Rattle.xoodyak.proofs.Session.aead_decrypt.Goals as goal
 
 pub returns-then-short-ne0 : goal.returns-then-short-ne0
 returns-then-short-ne0 c =
-    let short : c.first-short.result ≡ first (keyed_number c.args.self) (tail_number (length c.args.bin.now)) = c.first-short.ensures ∙ ap₂ first c.keyed_number.ensures c.tail_number.ensures in
+    let short = c.first-short.ensures ∙ ap₂ first c.keyed_number.ensures c.tail_number.ensures in
     let e = open-refused c.args.self c.args.out.now c.args.bin.now _ 0 (earlier c.first-short.result _ _ short c.if-short-ne0.true) (before-room c.args.self (length c.args.bin.now) _ _ _ short) c.if-short-ne0.true in
     record { value = c.answer.ensures ∙ ap answer_of e; out_after = ap (λ (x : Outcome). x.bytes) e }
 
 pub overflow_sub-n : goal.overflow_sub-n
 overflow_sub-n c =
-    let short : c.first-short.result ≡ first (keyed_number c.args.self) (tail_number (length c.args.bin.now)) = c.first-short.ensures ∙ ap₂ first c.keyed_number.ensures c.tail_number.ensures in
-    let tagged : 16 ≤ length (c.args.bin.now) = long c.args.self _ c.if-short-ne0.false _ (short) in
+    let short = c.first-short.ensures ∙ ap₂ first c.keyed_number.ensures c.tail_number.ensures in
+    let tagged = long c.args.self _ c.if-short-ne0.false _ short in
     let h = tagged in search rules
 
 pub returns-then-number-ne0 : goal.returns-then-number-ne0
 returns-then-number-ne0 c =
-    let short : c.first-short.result ≡ first (keyed_number c.args.self) (tail_number (length c.args.bin.now)) = c.first-short.ensures ∙ ap₂ first c.keyed_number.ensures c.tail_number.ensures in
-    let number : c.room_number-number.result ≡ first (first (keyed_number c.args.self) (tail_number (length c.args.bin.now))) (room_number (length c.args.out.now) ((length c.args.bin.now - 16))) = later c.first-short.result _ _ short _ c.if-short-ne0.false c.room_number-number.ensures in
+    let short = c.first-short.ensures ∙ ap₂ first c.keyed_number.ensures c.tail_number.ensures in
+    let number = later c.first-short.result _ _ short _ c.if-short-ne0.false c.room_number-number.ensures in
     let e = open-refused c.args.self c.args.out.now c.args.bin.now _ _ number c.missing.ensures c.if-number-ne0.true in
     record { value = c.short_answer.ensures ∙ ap answer_of e; out_after = ap (λ (x : Outcome). x.bytes) e }
 
-pub slice_bounds-copy_into-end : goal.slice_bounds-copy_into-end
-slice_bounds-copy_into-end c = sym (length-take-le _ _ (omega arith))
-
 pub copy_into-requires : goal.copy_into-requires
 copy_into-requires c =
-    let room : (length c.args.bin.now - 16) ≤ length (c.args.out.now) = room_fits _ _ (sym c.room_number-number.ensures ∙ c.if-number-ne0.false) in
+    let room = room_fits _ _ (sym c.room_number-number.ensures ∙ c.if-number-ne0.false) in
     let h = room in simp length-take (omega arith)
-
-pub slice_bounds-decrypt_message-end : goal.slice_bounds-decrypt_message-end
-slice_bounds-decrypt_message-end c =
-    let room : (length c.args.bin.now - 16) ≤ length (c.args.out.now) = room_fits _ _ (sym c.room_number-number.ensures ∙ c.if-number-ne0.false) in
-    let h = room in search rules
-
-pub slice_bounds-decrypt_message-end-2 : goal.slice_bounds-decrypt_message-end-2
-slice_bounds-decrypt_message-end-2 c =
-    let room : (length c.args.bin.now - 16) ≤ length (c.args.out.now) = room_fits _ _ (sym c.room_number-number.ensures ∙ c.if-number-ne0.false) in
-    let h = room in
-    sym (length-take-le _ c.copy_into.new.dst (omega (arith, c.copy_into.auto.dst)))
 
 pub same_bytes-requires : goal.same_bytes-requires
 same_bytes-requires c =
-    let short : c.first-short.result ≡ first (keyed_number c.args.self) (tail_number (length c.args.bin.now)) = c.first-short.ensures ∙ ap₂ first c.keyed_number.ensures c.tail_number.ensures in
-    let tagged : 16 ≤ length (c.args.bin.now) = long c.args.self _ c.if-short-ne0.false _ (short) in
+    let short = c.first-short.ensures ∙ ap₂ first c.keyed_number.ensures c.tail_number.ensures in
+    let tagged = long c.args.self _ c.if-short-ne0.false _ short in
     let h = tagged in
     simp (length-take, length-drop) (omega (arith, c.squeeze_tag-t.auto.out))
 
 pub returns-then-same_bytes : goal.returns-then-same_bytes
 returns-then-same_bytes c =
-    let room : (length c.args.bin.now - 16) ≤ length (c.args.out.now) = room_fits _ _ (sym c.room_number-number.ensures ∙ c.if-number-ne0.false) in
-    let short : c.first-short.result ≡ first (keyed_number c.args.self) (tail_number (length c.args.bin.now)) = c.first-short.ensures ∙ ap₂ first c.keyed_number.ensures c.tail_number.ensures in
-    let tagged : 16 ≤ length (c.args.bin.now) = long c.args.self _ c.if-short-ne0.false _ (short) in
-    let number : c.room_number-number.result ≡ first (first (keyed_number c.args.self) (tail_number (length c.args.bin.now))) (room_number (length c.args.out.now) ((length c.args.bin.now - 16))) = later c.first-short.result _ _ short _ c.if-short-ne0.false c.room_number-number.ensures in
-    let outcome : verdict c.same_bytes.result c.squeeze_tag-t.result ((c.decrypt_message-s.new.buf ++ drop ((length c.args.bin.now - 16)) c.copy_into.new.dst)) (replicate (length c.args.out.now) 0) (open_ups c.args.self (take ((length c.args.bin.now - 16)) c.copy_into.new.dst)) ≡ open_of c.args.self c.args.out.now (c.args.bin.now) = let t = c.squeeze_tag-t in
+    let room = room_fits _ _ (sym c.room_number-number.ensures ∙ c.if-number-ne0.false) in
+    let short = c.first-short.ensures ∙ ap₂ first c.keyed_number.ensures c.tail_number.ensures in
+    let tagged = long c.args.self _ c.if-short-ne0.false _ short in
+    let number = later c.first-short.result _ _ short _ c.if-short-ne0.false c.room_number-number.ensures in
+    let t = c.squeeze_tag-t in
     let f = c.decrypt_message-s in
     let w = c.copy_into in
     let h = tagged in
-    open-copy c.args.self f.result t.result (take ((length c.args.bin.now - 16)) w.new.dst) f.new.buf t.new.out _ c.same_bytes.result f.ensures.value f.ensures.buf_after t.ensures.value t.ensures.out_after c.same_bytes.ensures _ c.if-number-ne0.false c.args.out.now c.args.bin.now w.new.dst h number w.ensures refl (take_all (length c.args.bin.now - (length c.args.bin.now - 16)) (drop ((length c.args.bin.now - 16)) c.args.bin.now) (rw length-drop (le_refl _))) in
-    let e = same _ _ _ _ _ _ c.if-same_bytes.true (outcome) in
-    record { value = c.paid.ensures ∙ rw (open-cost c.args.self (take ((length c.args.bin.now - 16)) c.copy_into.new.dst) _ _ (sym (length-take-le _ c.copy_into.new.dst (omega (arith, c.copy_into.auto.dst, room)))) c.seal_share.ensures) (ap answer_of e); out_after = ap (λ (x : Outcome). x.bytes) e }
-
-pub slice_bounds-clear-end : goal.slice_bounds-clear-end
-slice_bounds-clear-end c =
-    let room : (length c.args.bin.now - 16) ≤ length (c.args.out.now) = room_fits _ _ (sym c.room_number-number.ensures ∙ c.if-number-ne0.false) in
-    let whole : length ((c.decrypt_message-s.new.buf ++ drop ((length c.args.bin.now - 16)) c.copy_into.new.dst)) ≡ length (c.args.out.now) = relaid ((length c.args.bin.now - 16)) c.decrypt_message-s.new.buf c.copy_into.new.dst c.args.out.now room c.decrypt_message-s.auto.buf c.copy_into.auto.dst in
-    let l = whole in search rules
-
-pub slice_bounds-clear-end-2 : goal.slice_bounds-clear-end-2
-slice_bounds-clear-end-2 c =
-    let room : (length c.args.bin.now - 16) ≤ length (c.args.out.now) = room_fits _ _ (sym c.room_number-number.ensures ∙ c.if-number-ne0.false) in
-    let whole : length ((c.decrypt_message-s.new.buf ++ drop ((length c.args.bin.now - 16)) c.copy_into.new.dst)) ≡ length (c.args.out.now) = relaid ((length c.args.bin.now - 16)) c.decrypt_message-s.new.buf c.copy_into.new.dst c.args.out.now room c.decrypt_message-s.auto.buf c.copy_into.auto.dst in
-    let l = whole in sym (length-take-le _ ((c.decrypt_message-s.new.buf ++ drop ((length c.args.bin.now - 16)) c.copy_into.new.dst)) (omega arith))
-
-pub shape_of-out-then-same_bytes : goal.shape_of-out-then-same_bytes
-shape_of-out-then-same_bytes c =
-    let room : (length c.args.bin.now - 16) ≤ length (c.args.out.now) = room_fits _ _ (sym c.room_number-number.ensures ∙ c.if-number-ne0.false) in
-    let whole : length ((c.decrypt_message-s.new.buf ++ drop ((length c.args.bin.now - 16)) c.copy_into.new.dst)) ≡ length (c.args.out.now) = relaid ((length c.args.bin.now - 16)) c.decrypt_message-s.new.buf c.copy_into.new.dst c.args.out.now room c.decrypt_message-s.auto.buf c.copy_into.auto.dst in
-    whole
-
-pub shape_of-out : goal.shape_of-out
-shape_of-out c =
-    let room : (length c.args.bin.now - 16) ≤ length (c.args.out.now) = room_fits _ _ (sym c.room_number-number.ensures ∙ c.if-number-ne0.false) in
-    let whole : length ((c.decrypt_message-s.new.buf ++ drop ((length c.args.bin.now - 16)) c.copy_into.new.dst)) ≡ length (c.args.out.now) = relaid ((length c.args.bin.now - 16)) c.decrypt_message-s.new.buf c.copy_into.new.dst c.args.out.now room c.decrypt_message-s.auto.buf c.copy_into.auto.dst in
-    let k = c.clear in
-    ap length (zeroed-whole _ ((c.decrypt_message-s.new.buf ++ drop ((length c.args.bin.now - 16)) c.copy_into.new.dst)) k.new.buf whole k.ensures) ∙ simp length-replicate refl
+    let outcome = open-copy c.args.self f.result t.result (take (length c.args.bin.now - 16) w.new.dst) f.new.buf t.new.out _ c.same_bytes.result f.ensures.value f.ensures.buf_after t.ensures.value t.ensures.out_after c.same_bytes.ensures _ c.if-number-ne0.false c.args.out.now c.args.bin.now w.new.dst h number w.ensures refl (take_all (length c.args.bin.now - (length c.args.bin.now - 16)) (drop (length c.args.bin.now - 16) c.args.bin.now) (rw length-drop (le_refl _))) in
+    let e = same _ _ _ _ _ _ c.if-same_bytes.true outcome in
+    record { value = c.paid.ensures ∙ rw (open-cost c.args.self (take (length c.args.bin.now - 16) c.copy_into.new.dst) _ _ (sym (length-take-le _ c.copy_into.new.dst (omega (arith, c.copy_into.auto.dst, room)))) c.seal_share.ensures) (ap answer_of e); out_after = ap (λ (x : Outcome). x.bytes) e }
 
 pub returns : goal.returns
 returns c =
-    let room : (length c.args.bin.now - 16) ≤ length (c.args.out.now) = room_fits _ _ (sym c.room_number-number.ensures ∙ c.if-number-ne0.false) in
-    let whole : length ((c.decrypt_message-s.new.buf ++ drop ((length c.args.bin.now - 16)) c.copy_into.new.dst)) ≡ length (c.args.out.now) = relaid ((length c.args.bin.now - 16)) c.decrypt_message-s.new.buf c.copy_into.new.dst c.args.out.now room c.decrypt_message-s.auto.buf c.copy_into.auto.dst in
-    let short : c.first-short.result ≡ first (keyed_number c.args.self) (tail_number (length c.args.bin.now)) = c.first-short.ensures ∙ ap₂ first c.keyed_number.ensures c.tail_number.ensures in
-    let tagged : 16 ≤ length (c.args.bin.now) = long c.args.self _ c.if-short-ne0.false _ (short) in
-    let number : c.room_number-number.result ≡ first (first (keyed_number c.args.self) (tail_number (length c.args.bin.now))) (room_number (length c.args.out.now) ((length c.args.bin.now - 16))) = later c.first-short.result _ _ short _ c.if-short-ne0.false c.room_number-number.ensures in
-    let outcome : verdict c.same_bytes.result c.squeeze_tag-t.result ((c.decrypt_message-s.new.buf ++ drop ((length c.args.bin.now - 16)) c.copy_into.new.dst)) (replicate (length c.args.out.now) 0) (open_ups c.args.self (take ((length c.args.bin.now - 16)) c.copy_into.new.dst)) ≡ open_of c.args.self c.args.out.now (c.args.bin.now) = let t = c.squeeze_tag-t in
+    let room = room_fits _ _ (sym c.room_number-number.ensures ∙ c.if-number-ne0.false) in
+    let whole = relaid (length c.args.bin.now - 16) c.decrypt_message-s.new.buf c.copy_into.new.dst c.args.out.now room c.decrypt_message-s.auto.buf c.copy_into.auto.dst in
+    let short = c.first-short.ensures ∙ ap₂ first c.keyed_number.ensures c.tail_number.ensures in
+    let tagged = long c.args.self _ c.if-short-ne0.false _ short in
+    let number = later c.first-short.result _ _ short _ c.if-short-ne0.false c.room_number-number.ensures in
+    let t = c.squeeze_tag-t in
     let f = c.decrypt_message-s in
     let w = c.copy_into in
     let h = tagged in
-    open-copy c.args.self f.result t.result (take ((length c.args.bin.now - 16)) w.new.dst) f.new.buf t.new.out _ c.same_bytes.result f.ensures.value f.ensures.buf_after t.ensures.value t.ensures.out_after c.same_bytes.ensures _ c.if-number-ne0.false c.args.out.now c.args.bin.now w.new.dst h number w.ensures refl (take_all (length c.args.bin.now - (length c.args.bin.now - 16)) (drop ((length c.args.bin.now - 16)) c.args.bin.now) (rw length-drop (le_refl _))) in
-    let e = differs _ _ _ _ _ _ c.if-same_bytes.false (outcome) in
+    let outcome = open-copy c.args.self f.result t.result (take (length c.args.bin.now - 16) w.new.dst) f.new.buf t.new.out _ c.same_bytes.result f.ensures.value f.ensures.buf_after t.ensures.value t.ensures.out_after c.same_bytes.ensures _ c.if-number-ne0.false c.args.out.now c.args.bin.now w.new.dst h number w.ensures refl (take_all (length c.args.bin.now - (length c.args.bin.now - 16)) (drop (length c.args.bin.now - 16) c.args.bin.now) (rw length-drop (le_refl _))) in
+    let e = differs _ _ _ _ _ _ c.if-same_bytes.false outcome in
     let k = c.clear in
-    record { value = c.paid-2.ensures ∙ rw (open-cost c.args.self (take ((length c.args.bin.now - 16)) c.copy_into.new.dst) _ _ (sym (length-take-le _ c.copy_into.new.dst (omega (arith, c.copy_into.auto.dst, room)))) c.seal_share-2.ensures) (ap answer_of e); out_after = zeroed-whole _ ((c.decrypt_message-s.new.buf ++ drop ((length c.args.bin.now - 16)) c.copy_into.new.dst)) k.new.buf whole k.ensures ∙ ap (λ (x : Outcome). x.bytes) e }
+    record { value = c.paid-2.ensures ∙ rw (open-cost c.args.self (take (length c.args.bin.now - 16) c.copy_into.new.dst) _ _ (sym (length-take-le _ c.copy_into.new.dst (omega (arith, c.copy_into.auto.dst, room)))) c.seal_share-2.ensures) (ap answer_of e); out_after = zeroed-whole _ ((c.decrypt_message-s.new.buf ++ drop (length c.args.bin.now - 16) c.copy_into.new.dst)) k.new.buf whole k.ensures ∙ ap (λ (x : Outcome). x.bytes) e }

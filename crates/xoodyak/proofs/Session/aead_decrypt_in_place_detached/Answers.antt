@@ -1,9 +1,8 @@
 -- The buffer is decrypted where it lies; the tag squeezed then decides whether that stands or the buffer becomes zero.
-use mathlib.Core.Path.{◌≡◌, refl, sym, ap, ◌∙◌}
+use mathlib.Core.Path.{refl, ap, ◌∙◌}
 use Prim.Native.Nat.{ℕ}
-use lib.ListN.{length, replicate}
-use borrow.Author.Rules.{rules}
-use Rattle.xoodyak.specs.Calls.{Outcome, answer_of, verdict, open_in_place_detached_of, open_ups}
+use lib.ListN.{replicate}
+use Rattle.xoodyak.specs.Calls.{Outcome, answer_of, open_in_place_detached_of}
 use Rattle.xoodyak.proofs.Costs.{open-cost}
 use Rattle.xoodyak.proofs.Settle.{call-refused}
 use Rattle.xoodyak.proofs.Sealing.{open-in-place-detached, same, differs}
@@ -15,31 +14,21 @@ unfolding open_in_place_detached_of
 returns-then-number-ne0 c = as_value_and_in_out_after (let a = c.args in
     call-refused _ _ c.keyed_number-number.ensures _ a.self a.in_out.now _ answer_of _ c.if-number-ne0.true c.answer.ensures)
 
-pub slice_bounds-same_bytes-end-2 : goal.slice_bounds-same_bytes-end-2
-slice_bounds-same_bytes-end-2 c =
-    let tag-size : length c.args.tag.bytes ≡ 16 = search rules in
-    sym (tag-size)
-
-pub same_bytes-requires : goal.same_bytes-requires
-same_bytes-requires c =
-    let tag-size : length c.args.tag.bytes ≡ 16 = search rules in
-    c.squeeze_tag-t.auto.out ∙ sym (tag-size)
-
 pub returns-then-same_bytes : goal.returns-then-same_bytes
 returns-then-same_bytes c =
-    let outcome : verdict c.same_bytes.result c.squeeze_tag-t.result c.decrypt_message-s.new.buf (replicate (length c.args.in_out.now) 0) (open_ups c.args.self c.args.in_out.now) ≡ open_in_place_detached_of c.args.self c.args.in_out.now c.args.tag = let a = c.args in
+    let a = c.args in
     let t = c.squeeze_tag-t in
     let f = c.decrypt_message-s in
-    open-in-place-detached a.self f.result t.result a.in_out.now f.new.buf t.new.out a.tag.bytes c.same_bytes.result f.ensures.value f.ensures.buf_after t.ensures.value t.ensures.out_after c.same_bytes.ensures _ c.if-number-ne0.false a.tag c.keyed_number-number.ensures refl in
-    let e = same _ _ _ _ _ _ c.if-same_bytes.true (outcome) in
+    let outcome = open-in-place-detached a.self f.result t.result a.in_out.now f.new.buf t.new.out a.tag.bytes c.same_bytes.result f.ensures.value f.ensures.buf_after t.ensures.value t.ensures.out_after c.same_bytes.ensures _ c.if-number-ne0.false a.tag c.keyed_number-number.ensures refl in
+    let e = same _ _ _ _ _ _ c.if-same_bytes.true outcome in
     record { value = c.paid.ensures ∙ rw (open-cost c.args.self c.args.in_out.now _ _ c.decrypt_message-s.auto.buf c.seal_share.ensures) (ap answer_of e); in_out_after = ap (λ (x : Outcome). x.bytes) e }
 
 pub returns : goal.returns
 returns c =
-    let outcome : verdict c.same_bytes.result c.squeeze_tag-t.result c.decrypt_message-s.new.buf (replicate (length c.args.in_out.now) 0) (open_ups c.args.self c.args.in_out.now) ≡ open_in_place_detached_of c.args.self c.args.in_out.now c.args.tag = let a = c.args in
+    let a = c.args in
     let t = c.squeeze_tag-t in
     let f = c.decrypt_message-s in
-    open-in-place-detached a.self f.result t.result a.in_out.now f.new.buf t.new.out a.tag.bytes c.same_bytes.result f.ensures.value f.ensures.buf_after t.ensures.value t.ensures.out_after c.same_bytes.ensures _ c.if-number-ne0.false a.tag c.keyed_number-number.ensures refl in
-    let e = differs _ _ _ _ _ _ c.if-same_bytes.false (outcome) in
+    let outcome = open-in-place-detached a.self f.result t.result a.in_out.now f.new.buf t.new.out a.tag.bytes c.same_bytes.result f.ensures.value f.ensures.buf_after t.ensures.value t.ensures.out_after c.same_bytes.ensures _ c.if-number-ne0.false a.tag c.keyed_number-number.ensures refl in
+    let e = differs _ _ _ _ _ _ c.if-same_bytes.false outcome in
     let k = c.clear in
     record { value = c.paid-2.ensures ∙ rw (open-cost c.args.self c.args.in_out.now _ _ (k.auto.buf ∙ c.decrypt_message-s.auto.buf) c.seal_share-2.ensures) (ap answer_of e); in_out_after = k.ensures ∙ ap (λ (i : ℕ). replicate i 0) c.decrypt_message-s.auto.buf ∙ ap (λ (x : Outcome). x.bytes) e }

@@ -1,52 +1,31 @@
 -- The message is copied and encrypted at the front, and the tag squeezed into an array of its own.
-use mathlib.Core.Path.{◌≡◌, refl, sym, ap, ap₂, ◌∙◌}
+use mathlib.Core.Path.{refl, sym, ap, ap₂, ◌∙◌}
 use Prim.Native.Nat.{◌≤◌}
 use native.Mathlib.Omega.{arith}
 use lib.ListN.{length, take}
-use lib.Seq.{length-take-le}
-use borrow.Author.Rules.{rules}
-use Rattle.xoodyak.specs.Numbers.{first, keyed_number, room_number}
+use Rattle.xoodyak.specs.Numbers.{first}
 use Rattle.xoodyak.specs.Calls.{Outcome, sealed_of, seal_detached_of}
 use Rattle.xoodyak.proofs.Costs.{seal-cost}
 use Rattle.xoodyak.proofs.Settle.{room-refused, copied-front}
-use Rattle.xoodyak.proofs.Sealing.{fits, relaid, seal-detached}
+use Rattle.xoodyak.proofs.Sealing.{fits, seal-detached}
 use Rattle.xoodyak.proofs.Session.aead_encrypt_detached.Goals as goal
 
 pub returns-then-number-ne0 : goal.returns-then-number-ne0
 unfolding seal_detached_of
 returns-then-number-ne0 c =
-    let number : c.first-number.result ≡ first (keyed_number c.args.self) (room_number (length c.args.out.now) (length c.or_empty-m.result.now)) = c.first-number.ensures ∙ ap₂ first c.keyed_number.ensures c.room_number.ensures in
+    let number = c.first-number.ensures ∙ ap₂ first c.keyed_number.ensures c.room_number.ensures in
     let e = room-refused _ _ _ _ _ number c.missing.ensures c.args.self c.args.out.now _ c.if-number-ne0.true ∙ ap (seal_detached_of c.args.self c.args.out.now) c.or_empty-m.ensures in
     record { value = c.sealed.ensures ∙ rw c.from_bytes.ensures (ap sealed_of e); out_after = ap (λ (x : Outcome). x.bytes) e }
 
 pub copy_into-requires : goal.copy_into-requires
 copy_into-requires c =
-    let number : c.first-number.result ≡ first (keyed_number c.args.self) (room_number (length c.args.out.now) (length c.or_empty-m.result.now)) = c.first-number.ensures ∙ ap₂ first c.keyed_number.ensures c.room_number.ensures in
-    let room : length c.or_empty-m.result.now ≤ length (c.args.out.now) = fits c.args.self _ c.if-number-ne0.false _ _ (number) in
+    let number = c.first-number.ensures ∙ ap₂ first c.keyed_number.ensures c.room_number.ensures in
+    let room : length c.or_empty-m.result.now ≤ length (c.args.out.now) = fits c.args.self _ c.if-number-ne0.false _ _ number in
     let h = room in omega arith
-
-pub slice_bounds-encrypt_message-end : goal.slice_bounds-encrypt_message-end
-slice_bounds-encrypt_message-end c =
-    let number : c.first-number.result ≡ first (keyed_number c.args.self) (room_number (length c.args.out.now) (length c.or_empty-m.result.now)) = c.first-number.ensures ∙ ap₂ first c.keyed_number.ensures c.room_number.ensures in
-    let room : length c.or_empty-m.result.now ≤ length (c.args.out.now) = fits c.args.self _ c.if-number-ne0.false _ _ (number) in
-    let h = room in search rules
-
-pub slice_bounds-encrypt_message-end-2 : goal.slice_bounds-encrypt_message-end-2
-slice_bounds-encrypt_message-end-2 c =
-    let number : c.first-number.result ≡ first (keyed_number c.args.self) (room_number (length c.args.out.now) (length c.or_empty-m.result.now)) = c.first-number.ensures ∙ ap₂ first c.keyed_number.ensures c.room_number.ensures in
-    let room : length c.or_empty-m.result.now ≤ length (c.args.out.now) = fits c.args.self _ c.if-number-ne0.false _ _ (number) in
-    let h = room in
-    sym (length-take-le _ c.copy_into.new.dst (omega (arith, c.copy_into.auto.dst)))
-
-pub shape_of-out : goal.shape_of-out
-shape_of-out c =
-    let number : c.first-number.result ≡ first (keyed_number c.args.self) (room_number (length c.args.out.now) (length c.or_empty-m.result.now)) = c.first-number.ensures ∙ ap₂ first c.keyed_number.ensures c.room_number.ensures in
-    let room : length c.or_empty-m.result.now ≤ length (c.args.out.now) = fits c.args.self _ c.if-number-ne0.false _ _ (number) in
-    relaid (length c.or_empty-m.result.now) c.encrypt_message-s.new.buf c.copy_into.new.dst c.args.out.now room c.encrypt_message-s.auto.buf c.copy_into.auto.dst
 
 pub returns : goal.returns
 returns c =
-    let number : c.first-number.result ≡ first (keyed_number c.args.self) (room_number (length c.args.out.now) (length c.or_empty-m.result.now)) = c.first-number.ensures ∙ ap₂ first c.keyed_number.ensures c.room_number.ensures in
+    let number = c.first-number.ensures ∙ ap₂ first c.keyed_number.ensures c.room_number.ensures in
     let t = c.squeeze_tag-t in
     let f = c.encrypt_message-s in
     let w = c.copy_into in

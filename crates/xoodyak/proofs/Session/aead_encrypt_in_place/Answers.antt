@@ -1,11 +1,11 @@
 -- All but the last 16 bytes are encrypted where they lie, and the tag squeezed into those.
 use mathlib.Core.Path.{◌≡◌, refl, sym, ap, ap₂, ◌∙◌}
-use Prim.Native.Nat.{◌-◌, ◌≤◌}
+use Prim.Native.Nat.{◌-◌}
 use native.Mathlib.Omega.{arith}
 use lib.ListN.{length, take, length-append, length-drop, length-take}
 use lib.Seq.{length-take-le}
 use borrow.Author.Rules.{rules}
-use Rattle.xoodyak.specs.Numbers.{first, keyed_number, tail_number}
+use Rattle.xoodyak.specs.Numbers.{first}
 use Rattle.xoodyak.specs.Calls.{Outcome, answer_of, seal_in_place_of}
 use Rattle.xoodyak.proofs.Costs.{seal-cost}
 use Rattle.xoodyak.proofs.Settle.{call-refused}
@@ -16,30 +16,27 @@ use Rattle.xoodyak.proofs.Session.aead_encrypt_in_place.Goals as goal
 pub returns-then-number-ne0 : goal.returns-then-number-ne0
 unfolding seal_in_place_of
 returns-then-number-ne0 c =
-    let number : c.first-number.result ≡ first (keyed_number c.args.self) (tail_number (length c.args.in_out.now)) = c.first-number.ensures ∙ ap₂ first c.keyed_number.ensures c.tail_number.ensures in
+    let number = c.first-number.ensures ∙ ap₂ first c.keyed_number.ensures c.tail_number.ensures in
     as_value_and_in_out_after (call-refused _ _ number _ c.args.self c.args.in_out.now _ answer_of _ c.if-number-ne0.true c.answer.ensures)
 
 pub overflow_sub-n : goal.overflow_sub-n
 overflow_sub-n c =
-    let number : c.first-number.result ≡ first (keyed_number c.args.self) (tail_number (length c.args.in_out.now)) = c.first-number.ensures ∙ ap₂ first c.keyed_number.ensures c.tail_number.ensures in
-    let room : 16 ≤ length (c.args.in_out.now) = long c.args.self _ c.if-number-ne0.false _ (number) in
+    let number = c.first-number.ensures ∙ ap₂ first c.keyed_number.ensures c.tail_number.ensures in
+    let room = long c.args.self _ c.if-number-ne0.false _ number in
     let h = room in search rules
-
-pub slice_bounds-encrypt_message-end-2 : goal.slice_bounds-encrypt_message-end-2
-slice_bounds-encrypt_message-end-2 c = sym (length-take-le _ _ (omega arith))
 
 pub squeeze_tag-requires : goal.squeeze_tag-requires
 squeeze_tag-requires c =
     let front : length c.encrypt_message-s.new.buf ≡ length c.args.in_out.now - 16 = c.encrypt_message-s.auto.buf ∙ length-take-le _ c.args.in_out.now (omega arith) in
-    let number : c.first-number.result ≡ first (keyed_number c.args.self) (tail_number (length c.args.in_out.now)) = c.first-number.ensures ∙ ap₂ first c.keyed_number.ensures c.tail_number.ensures in
-    let room : 16 ≤ length (c.args.in_out.now) = long c.args.self _ c.if-number-ne0.false _ (number) in
+    let number = c.first-number.ensures ∙ ap₂ first c.keyed_number.ensures c.tail_number.ensures in
+    let room = long c.args.self _ c.if-number-ne0.false _ number in
     let h = room in
     let l = front in
     simp (length-take, length-drop, length-append) (omega arith)
 
 pub returns : goal.returns
 returns c =
-    let number : c.first-number.result ≡ first (keyed_number c.args.self) (tail_number (length c.args.in_out.now)) = c.first-number.ensures ∙ ap₂ first c.keyed_number.ensures c.tail_number.ensures in
+    let number = c.first-number.ensures ∙ ap₂ first c.keyed_number.ensures c.tail_number.ensures in
     let front : length c.encrypt_message-s.new.buf ≡ length c.args.in_out.now - 16 = c.encrypt_message-s.auto.buf ∙ length-take-le _ c.args.in_out.now (omega arith) in
     let t = c.squeeze_tag in
     let f = c.encrypt_message-s in

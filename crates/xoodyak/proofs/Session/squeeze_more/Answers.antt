@@ -2,7 +2,6 @@
 use lib.ListN.{length}
 use Rattle.xoodyak.specs.Calls.{answer_of, squeeze_more_of}
 use Rattle.xoodyak.proofs.Settle.{call-taken, call-refused}
-use Rattle.xoodyak.proofs.Turns.{rate-pos}
 use Rattle.xoodyak.proofs.Costs.{squeeze-more-share}
 use Rattle.laws.proofs.Clauses.{as_value_and_out_after}
 use Rattle.xoodyak.proofs.Session.squeeze_more.Goals as goal
@@ -10,9 +9,6 @@ use Rattle.xoodyak.proofs.Session.squeeze_more.Goals as goal
 pub returns-then-number-ne0 : goal.returns-then-number-ne0
 unfolding squeeze_more_of
 returns-then-number-ne0 c = as_value_and_out_after (call-refused _ _ c.unfinished_number-number.ensures _ _ _ _ answer_of _ c.if-number-ne0.true c.answer.ensures)
-
-pub block_count-requires : goal.block_count-requires
-block_count-requires c = rw c.squeeze_rate.ensures (rate-pos c.args.self.duplex.mode)
 
 pub returns : goal.returns
 unfolding squeeze_more_of

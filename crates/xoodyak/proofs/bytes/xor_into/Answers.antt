@@ -1,9 +1,8 @@
 -- After i turns the front i bytes of src are added to dst; a turn adds one byte more.
-use mathlib.Core.Path.{refl, sym, ◌∙◌}
+use mathlib.Core.Path.{refl, sym}
 use native.Mathlib.Numerals.{add-one}
 use native.Mathlib.Omega.{arith}
 use lib.ListN.{length-set}
-use lib.Seq.{take_all}
 use Rattle.laws.specs.Words.{◌⊕◌}
 use Rattle.laws.proofs.Lists.{add_front-nil, add_front-step}
 use Rattle.xoodyak.proofs.bytes.xor_into.Goals as goal
@@ -11,28 +10,7 @@ use Rattle.xoodyak.proofs.bytes.xor_into.Goals as goal
 pub loop-i-init : goal.loop-i-init
 loop-i-init c = (omega arith, sym (add_front-nil _), refl)
 
-pub bounds-dst-i : goal.bounds-dst-i
-bounds-dst-i c = omega arith
-
-pub bounds-src-i : goal.bounds-src-i
-bounds-src-i c = omega arith
-
-pub bounds-dst-i-in-loop-i : goal.bounds-dst-i-in-loop-i
-bounds-dst-i-in-loop-i c = omega arith
-
-pub overflow_add-i : goal.overflow_add-i
-overflow_add-i c = omega arith
-
-pub loop-i-smaller : goal.loop-i-smaller
-loop-i-smaller c = omega arith
-
 pub loop-i-preserved : goal.loop-i-preserved
 unfolding ◌⊕◌
 loop-i-preserved c =
     (omega arith, rw (add-one, c.loop-i.invariant.1) (add_front-step c.args.dst.now c.args.src.now _ c.loop-i-test.true), simp length-set (omega arith))
-
-pub shape_of-dst : goal.shape_of-dst
-shape_of-dst c = omega arith
-
-pub returns : goal.returns
-returns c = c.loop-i.invariant.1 ∙ rw (take_all _ _ c.loop-i-test.false)

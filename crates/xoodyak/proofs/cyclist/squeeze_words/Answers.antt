@@ -1,9 +1,8 @@
 -- The bytes written, then what the rest gives from the words now, are what the whole gives from the start.
-use mathlib.Core.Path.{◌≡◌, refl, sym, ap, ◌∙◌}
+use mathlib.Core.Path.{◌≡◌, sym, ap, ◌∙◌}
 use Prim.Native.Nat.{◌+◌, ◌-◌, ◌<◌}
-use native.Mathlib.Nat.{sub-zero}
 use native.Mathlib.Omega.{arith}
-use lib.ListN.{length, take, drop, length-take}
+use lib.ListN.{length, take, drop}
 use borrow.Rule.Slice.PartMut.{same_len_mid}
 use Rattle.laws.proofs.Lists.{length-mid}
 use Rattle.xoodoo.specs.Xoodoo.{to_bytes}
@@ -13,30 +12,6 @@ use Rattle.xoodyak.specs.declared.cyclist.Phase.TheVariants.{Up}
 use Rattle.xoodyak.proofs.BlockWords.{held, next-is}
 use Rattle.xoodyak.proofs.Turns.{nexts-turn-end, nexts-turn-out, nexts-done-end, nexts-done-out}
 use Rattle.xoodyak.proofs.cyclist.squeeze_words.Goals as goal
-
-pub loop-i-init : goal.loop-i-init
-loop-i-init c = (omega arith, refl, λ m. rw sub-zero, λ m. rw sub-zero)
-
-pub overflow_sub-n : goal.overflow_sub-n
-overflow_sub-n c = omega arith
-
-pub overflow_add-e : goal.overflow_add-e
-overflow_add-e c = omega arith
-
-pub slice_bounds-write_front-count : goal.slice_bounds-write_front-count
-slice_bounds-write_front-count c = omega arith
-
-pub slice_bounds-write_front-start : goal.slice_bounds-write_front-start
-slice_bounds-write_front-start c = omega arith
-
-pub slice_bounds-write_front-end : goal.slice_bounds-write_front-end
-slice_bounds-write_front-end c = omega arith
-
-pub write_front-requires : goal.write_front-requires
-write_front-requires c = simp length-take (omega arith)
-
-pub loop-i-smaller : goal.loop-i-smaller
-loop-i-smaller c = omega arith
 
 pub loop-i-preserved : goal.loop-i-preserved
 loop-i-preserved c =
@@ -61,9 +36,6 @@ loop-i-preserved c =
       λ m. nexts-turn-end r n i e o y (held Up m s) (held Up m t) c.requires.0 ln h (omega arith) (et m) ey ly ∙ c.loop-i.invariant.2 m,
       λ m. nexts-turn-out r n i e o y (held Up m s) (held Up m t) c.requires.0 ln h (omega arith) (et m) ey ly ∙ c.loop-i.invariant.3 m,
     )
-
-pub shape_of-out : goal.shape_of-out
-shape_of-out c = omega arith
 
 pub returns : goal.returns
 returns c =

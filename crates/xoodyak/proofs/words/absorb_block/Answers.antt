@@ -5,17 +5,8 @@ use lib.ListN.{length}
 use lib.Seq.{take_all}
 use Rattle.xoodyak.proofs.words.absorb_block.Goals as goal
 
-pub returns-then-n-eq44 : goal.returns-then-n-eq44
-returns-then-n-eq44 c =
-    let x = c.args.x.now in
-    let l : length x ≡ 44 = omega arith in
-    c.pad44.ensures ∙ rw (c.add11.ensures, c.get44.ensures, l, c.permute_words.ensures)
-
 pub returns-then-n-eq16 : goal.returns-then-n-eq16
 returns-then-n-eq16 c =
     let x = c.args.x.now in
     let l : length x ≡ 16 = omega arith in
     c.pad16.ensures ∙ rw (c.add4.ensures, c.get16.ensures, take_all 16 x (omega arith), l, c.permute_words-then-n-eq16.ensures)
-
-pub returns : goal.returns
-returns c = c.down_words.ensures ∙ rw c.permute_words-2.ensures

@@ -1,15 +1,14 @@
 -- The stream is added to the block, and what that gives is added to the state.
-use mathlib.Core.Path.{◌≡◌, sym, ◌∙◌}
+use mathlib.Core.Path.{◌≡◌, ◌∙◌}
 use native.Mathlib.Omega.{arith}
 use lib.Dec.{lit≤}
-use lib.ListN.{length, length-take}
-use lib.Seq.{take_all, length-take-le}
+use lib.ListN.{length}
+use lib.Seq.{take_all}
 use Rattle.laws.specs.Lists.{add_front}
 use Rattle.laws.proofs.Lists.{add_front-take, length-add_front}
 use Rattle.xoodoo.specs.Xoodoo.{to_bytes, xoodoo}
 use Rattle.xoodoo.proofs.Bytes.{to-bytes}
 use Rattle.xoodyak.proofs.BlockWords.{decrypted-end, met-out}
-use borrow.Author.Rules.{rules}
 use Rattle.xoodyak.proofs.words.decrypt_block.Goals as goal
 
 pub returns-then-n-eq16 : goal.returns-then-n-eq16
@@ -20,12 +19,6 @@ returns-then-n-eq16 c =
     let eu = c.add4.ensures in
     let ev = c.permute_words-v.ensures in
     let ef = c.front4-m.ensures in record { result_value = decrypted-end l ex ev eu (to-bytes _).size (lit≤ tt) ef c.add4-then-n-eq16.ensures c.pad16.ensures; buf_after = met-out l ex ev eu (to-bytes _).size (lit≤ tt) ef c.put16.ensures }
-
-pub slice_bounds-xor_into-end : goal.slice_bounds-xor_into-end
-slice_bounds-xor_into-end c = let l : length c.from_words-stream.result ≡ 48 = search rules in sym (length-take-le _ _ (omega arith))
-
-pub xor_into-requires : goal.xor_into-requires
-xor_into-requires c = let l : length c.from_words-stream.result ≡ 48 = search rules in simp length-take (omega arith)
 
 pub returns : goal.returns
 returns c =

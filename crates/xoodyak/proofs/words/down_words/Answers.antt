@@ -6,12 +6,6 @@ use lib.Seq.{take_all}
 use Rattle.laws.specs.Words.{◌⊕◌}
 use Rattle.xoodyak.proofs.words.down_words.Goals as goal
 
-pub returns-then-n-eq44 : goal.returns-then-n-eq44
-returns-then-n-eq44 c =
-    let x = c.args.x.now in
-    let l : length x ≡ 44 = omega arith in
-    c.pad44.ensures ∙ rw (c.add11.ensures, c.get44.ensures, l)
-
 pub returns-then-n-eq16 : goal.returns-then-n-eq16
 returns-then-n-eq16 c =
     let x = c.args.x.now in

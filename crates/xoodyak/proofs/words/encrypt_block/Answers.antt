@@ -1,13 +1,12 @@
 -- What is added to the state leaves the ciphertext at its front; a block of another length is added before the stream is added to it.
-use mathlib.Core.Path.{◌≡◌, sym, ◌∙◌}
+use mathlib.Core.Path.{◌≡◌, ◌∙◌}
 use native.Mathlib.Omega.{arith}
 use lib.Dec.{lit≤}
-use lib.ListN.{length, length-take}
-use lib.Seq.{take_all, length-take-le}
+use lib.ListN.{length}
+use lib.Seq.{take_all}
 use Rattle.laws.proofs.Lists.{add_front-take}
 use Rattle.xoodoo.proofs.Bytes.{to-bytes}
 use Rattle.xoodyak.proofs.BlockWords.{encrypted-end, met-out}
-use borrow.Author.Rules.{rules}
 use Rattle.xoodyak.proofs.words.encrypt_block.Goals as goal
 
 pub returns-then-n-eq24 : goal.returns-then-n-eq24
@@ -26,12 +25,6 @@ returns-then-n-eq16 c =
     let eu = c.add4-u.ensures in
     let ev = c.permute_words-v.ensures in
     record { result_value = encrypted-end l ex ev eu c.pad16.ensures; buf_after = met-out l ex ev eu (to-bytes _).size (lit≤ tt) c.front4.ensures c.put16.ensures }
-
-pub slice_bounds-xor_into-end : goal.slice_bounds-xor_into-end
-slice_bounds-xor_into-end c = let l : length c.from_words-stream.result ≡ 48 = search rules in sym (length-take-le _ _ (omega arith))
-
-pub xor_into-requires : goal.xor_into-requires
-xor_into-requires c = let l : length c.from_words-stream.result ≡ 48 = search rules in simp length-take (omega arith)
 
 pub returns : goal.returns
 returns c =

@@ -1,19 +1,12 @@
 -- The first block has the colour; the rest is absorb_more, since the phase is Down after a block.
 use lib.Seq.{take_all}
-use mathlib.Core.Path.{sym, ◌∙◌}
+use mathlib.Core.Path.{◌∙◌}
 use Prim.Native.Nat.{◌-◌, ◌≤◌}
 use native.Mathlib.Omega.{arith}
-use lib.ListN.{length, drop, length-drop, length-take}
-use lib.Seq.{length-take-le}
+use lib.ListN.{length, drop, length-drop}
 use Rattle.xoodyak.proofs.Turns.{absorb-is}
 use Rattle.xoodyak.specs.Cyclist.{absorb_more}
 use Rattle.xoodyak.proofs.cyclist.Duplex.absorb_any.Goals as goal
-
-pub slice_bounds-down-end : goal.slice_bounds-down-end
-slice_bounds-down-end c = sym (length-take-le _ _ (omega arith))
-
-pub down-d-requires : goal.down-d-requires
-down-d-requires c = simp length-take (omega arith)
 
 pub returns : goal.returns
 unfolding absorb_more

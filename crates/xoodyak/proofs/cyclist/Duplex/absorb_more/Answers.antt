@@ -1,8 +1,7 @@
 -- What is left of the input, absorbed from the words now, gives what the whole gives from the start.
-use mathlib.Core.Path.{refl, sym, ap, ◌∙◌}
+use mathlib.Core.Path.{sym, ap, ◌∙◌}
 use Prim.Native.Nat.{◌+◌}
 use native.Mathlib.Omega.{arith}
-use lib.ListN.{length-take}
 use Rattle.laws.specs.Blocks.{cuts}
 use Rattle.xoodoo.specs.Xoodoo.{to_bytes}
 use Rattle.xoodyak.specs.Cyclist.{absorb_more, more_blocks}
@@ -14,30 +13,6 @@ use Rattle.xoodyak.proofs.cyclist.Duplex.absorb_more.Goals as goal
 pub returns-then-n-eq0 : goal.returns-then-n-eq0
 unfolding absorb_more
 returns-then-n-eq0 c = let a = c.args in sym (more-done a.rate 0 a.bin.now a.self (omega arith))
-
-pub loop-i-init : goal.loop-i-init
-loop-i-init c = (omega arith, refl)
-
-pub overflow_sub-n : goal.overflow_sub-n
-overflow_sub-n c = omega arith
-
-pub overflow_add-e : goal.overflow_add-e
-overflow_add-e c = omega arith
-
-pub slice_bounds-absorb_block-count : goal.slice_bounds-absorb_block-count
-slice_bounds-absorb_block-count c = omega arith
-
-pub slice_bounds-absorb_block-start : goal.slice_bounds-absorb_block-start
-slice_bounds-absorb_block-start c = omega arith
-
-pub slice_bounds-absorb_block-end : goal.slice_bounds-absorb_block-end
-slice_bounds-absorb_block-end c = omega arith
-
-pub absorb_block-v-requires : goal.absorb_block-v-requires
-absorb_block-v-requires c = simp length-take (omega arith)
-
-pub loop-i-smaller : goal.loop-i-smaller
-loop-i-smaller c = omega (arith, c.requires.0)
 
 pub loop-i-preserved : goal.loop-i-preserved
 loop-i-preserved c =

@@ -3,7 +3,7 @@ use mathlib.Core.Path.{◌≡◌, refl, sym, ap, ◌∙◌}
 use mathlib.Core.List.{◌++◌}
 use Prim.Native.Nat.{◌+◌, ◌-◌, ◌≤◌, ◌<◌, min}
 use native.Mathlib.Omega.{arith}
-use lib.ListN.{length, take, drop, length-take, length-drop}
+use lib.ListN.{length, take, drop}
 use borrow.Rule.Slice.PartMut.{put_mid, same_len_mid}
 use Rattle.laws.specs.Blocks.{cuts}
 use Rattle.laws.specs.Lists.{add_front}
@@ -23,33 +23,6 @@ returns-then-n-eq0 c =
     let h : length a.buf.now ≤ 0 = omega arith in
     record { value = sym (crypt-done-end dec_end dec_out add_front length-add_front (λ cu d. refl) (λ cu d. refl) (λ b bs cu d. refl) (λ b bs cu d. refl) 0 128 a.buf.now a.self h); buf_after = sym (crypt-done-out dec_end dec_out add_front length-add_front (λ cu d. refl) (λ cu d. refl) (λ b bs cu d. refl) (λ b bs cu d. refl) 0 128 a.buf.now a.self h) }
 
-pub loop-i-init : goal.loop-i-init
-loop-i-init c = (omega arith, refl, refl, refl)
-
-pub overflow_sub-n : goal.overflow_sub-n
-overflow_sub-n c = omega arith
-
-pub overflow_add-i : goal.overflow_add-i
-overflow_add-i c = omega arith
-
-pub slice_bounds-decrypt_full-count : goal.slice_bounds-decrypt_full-count
-slice_bounds-decrypt_full-count c = omega arith
-
-pub slice_bounds-decrypt_full-start : goal.slice_bounds-decrypt_full-start
-slice_bounds-decrypt_full-start c = omega arith
-
-pub slice_bounds-decrypt_full-end : goal.slice_bounds-decrypt_full-end
-slice_bounds-decrypt_full-end c = omega arith
-
-pub decrypt_full-v-requires : goal.decrypt_full-v-requires
-decrypt_full-v-requires c = simp (length-take, length-drop) (omega arith)
-
-pub overflow_add-i-in-loop-i : goal.overflow_add-i-in-loop-i
-overflow_add-i-in-loop-i c = omega arith
-
-pub loop-i-smaller : goal.loop-i-smaller
-loop-i-smaller c = omega arith
-
 pub loop-i-preserved : goal.loop-i-preserved
 unfolding dec_end dec_out
 loop-i-preserved c =
@@ -68,28 +41,6 @@ loop-i-preserved c =
       crypt-turn-end dec_end dec_out add_front length-add_front (λ cu d. refl) (λ cu d. refl) (λ b bs cu d. refl) (λ b bs cu d. refl) m i e x y s t h q b.ensures.result_value b.ensures.buf_after ∙ c.loop-i.invariant.2,
       crypt-turn-out dec_end dec_out add_front length-add_front (λ cu d. refl) (λ cu d. refl) (λ b bs cu d. refl) (λ b bs cu d. refl) m i e x y s t h q b.ensures.result_value b.ensures.buf_after ∙ c.loop-i.invariant.3,
     )
-
-pub slice_bounds-decrypt_block-count : goal.slice_bounds-decrypt_block-count
-slice_bounds-decrypt_block-count c = omega arith
-
-pub slice_bounds-decrypt_block-start : goal.slice_bounds-decrypt_block-start
-slice_bounds-decrypt_block-start c = omega arith
-
-pub slice_bounds-decrypt_block-end : goal.slice_bounds-decrypt_block-end
-slice_bounds-decrypt_block-end c = omega arith
-
-pub decrypt_block-v-requires : goal.decrypt_block-v-requires
-decrypt_block-v-requires c = simp length-take (omega arith)
-
-pub shape_of-buf : goal.shape_of-buf
-shape_of-buf c =
-    let i = c.loop-i.i in
-    let x = c.loop-i.buf in
-    let n = length c.args.buf.now in
-    elim c.if-i-n.branch [
-      | then-i-n w ↦ ap length w.buf-is ∙ same_len_mid i (n - i) x w.decrypt_block-v.new.buf w.decrypt_block-v.auto.buf ∙ c.loop-i.invariant.1
-      | else-i-n w ↦ ap length w.buf-is ∙ c.loop-i.invariant.1
-    ]
 
 pub returns : goal.returns
 unfolding dec_end dec_out

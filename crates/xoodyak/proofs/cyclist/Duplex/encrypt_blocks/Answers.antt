@@ -2,7 +2,7 @@
 use mathlib.Core.Path.{◌≡◌, refl, sym, ap, ◌∙◌}
 use Prim.Native.Nat.{◌+◌, ◌-◌, ◌≤◌, ◌<◌, min}
 use native.Mathlib.Omega.{arith}
-use lib.ListN.{length, length-take}
+use lib.ListN.{length}
 use borrow.Rule.Slice.PartMut.{same_len_mid}
 use Rattle.xoodoo.specs.Xoodoo.{to_bytes}
 use Rattle.xoodyak.specs.Cyclist.{enc_end, enc_out}
@@ -17,30 +17,6 @@ returns-then-n-eq0 c =
     let a = c.args in
     let h : length a.buf.now ≤ 0 = omega arith in
     record { value = sym (crypt-done-end enc_end enc_out (λ b k. b) (λ b k. refl) (λ cu d. refl) (λ cu d. refl) (λ b bs cu d. refl) (λ b bs cu d. refl) 0 128 a.buf.now a.self h); buf_after = sym (crypt-done-out enc_end enc_out (λ b k. b) (λ b k. refl) (λ cu d. refl) (λ cu d. refl) (λ b bs cu d. refl) (λ b bs cu d. refl) 0 128 a.buf.now a.self h) }
-
-pub loop-i-init : goal.loop-i-init
-loop-i-init c = (omega arith, refl, refl, refl)
-
-pub overflow_sub-n : goal.overflow_sub-n
-overflow_sub-n c = omega arith
-
-pub overflow_add-end : goal.overflow_add-end
-overflow_add-end c = omega arith
-
-pub slice_bounds-encrypt_block-count : goal.slice_bounds-encrypt_block-count
-slice_bounds-encrypt_block-count c = omega arith
-
-pub slice_bounds-encrypt_block-start : goal.slice_bounds-encrypt_block-start
-slice_bounds-encrypt_block-start c = omega arith
-
-pub slice_bounds-encrypt_block-end : goal.slice_bounds-encrypt_block-end
-slice_bounds-encrypt_block-end c = omega arith
-
-pub encrypt_block-v-requires : goal.encrypt_block-v-requires
-encrypt_block-v-requires c = simp length-take (omega arith)
-
-pub loop-i-smaller : goal.loop-i-smaller
-loop-i-smaller c = omega arith
 
 pub loop-i-preserved : goal.loop-i-preserved
 unfolding enc_end enc_out
@@ -57,9 +33,6 @@ loop-i-preserved c =
       crypt-turn-end enc_end enc_out (λ b k. b) (λ b k. refl) (λ cu d. refl) (λ cu d. refl) (λ b bs cu d. refl) (λ b bs cu d. refl) m c.loop-i.i e c.loop-i.buf b.new.buf s t h q b.ensures.result_value b.ensures.buf_after ∙ c.loop-i.invariant.2,
       crypt-turn-out enc_end enc_out (λ b k. b) (λ b k. refl) (λ cu d. refl) (λ cu d. refl) (λ b bs cu d. refl) (λ b bs cu d. refl) m c.loop-i.i e c.loop-i.buf b.new.buf s t h q b.ensures.result_value b.ensures.buf_after ∙ c.loop-i.invariant.3,
     )
-
-pub shape_of-buf : goal.shape_of-buf
-shape_of-buf c = omega arith
 
 pub returns : goal.returns
 unfolding enc_end enc_out

@@ -1,199 +1,15 @@
 -- What is spent and written, then what the rest gives from where it stands, is what the whole gives from the start.
-use mathlib.Core.Path.{◌≡◌, refl, sym, ◌∙◌}
+use mathlib.Core.Path.{◌≡◌, ◌∙◌}
 use mathlib.Core.Bool.{true}
 use Prim.Native.Nat.{◌+◌, ◌-◌, ◌<◌, ◌≤◌, min}
-use native.Mathlib.Nat.{sub-zero}
 use native.Mathlib.Omega.{arith}
 use lib.Dec.{leb}
 use lib.ListN.{length, drop, length-drop}
 use borrow.Author.Tests.{leb-true}
 use borrow.Rule.Slice.PartMut.{same_len_mid}
-use Rattle.laws.proofs.Lists.{length-mid}
 use Rattle.xoodyak.specs.Feed.{ups_before, place_in}
-use Rattle.xoodyak.proofs.Feeding.{past-none, place-within, going-left, going-allowed, feed-turned, feed-stops, feed-done}
+use Rattle.xoodyak.proofs.Feeding.{place-within, going-left, going-allowed, feed-turned, feed-stops, feed-done}
 use Rattle.xoodyak.proofs.cyclist.Duplex.feed.Goals as goal
-
-pub loop-going-init : goal.loop-going-init
-loop-going-init c = (omega arith, refl, omega arith, c.requires.1, c.is_open-fits.ensures, c.goes_on-going.ensures ∙ simp sub-zero, refl, rw sub-zero (sym (past-none _)))
-
-pub overflow_sub-q : goal.overflow_sub-q
-overflow_sub-q c =
-    let inside : (c.loop-going.i < length c.args.piece.now) × (place_in c.loop-going.fits c.loop-going.p < 24) = let h = going-left c.loop-going.going c.loop-going.fits (length c.args.piece.now - c.loop-going.i) ((c.args.allowance - c.loop-going.spent)) c.loop-going.invariant.5 c.loop-going-test.true in
-    (omega arith, place-within _ _ c.loop-going.invariant.4) in
-    let k = inside in omega (arith, c.place_in-q.ensures)
-
-pub overflow_sub-n : goal.overflow_sub-n
-overflow_sub-n c =
-    let inside : (c.loop-going.i < length c.args.piece.now) × (place_in c.loop-going.fits c.loop-going.p < 24) = let h = going-left c.loop-going.going c.loop-going.fits (length c.args.piece.now - c.loop-going.i) ((c.args.allowance - c.loop-going.spent)) c.loop-going.invariant.5 c.loop-going-test.true in
-    (omega arith, place-within _ _ c.loop-going.invariant.4) in
-    let k = inside in omega (arith, c.place_in-q.ensures)
-
-pub overflow_add-e : goal.overflow_add-e
-overflow_add-e c =
-    let inside : (c.loop-going.i < length c.args.piece.now) × (place_in c.loop-going.fits c.loop-going.p < 24) = let h = going-left c.loop-going.going c.loop-going.fits (length c.args.piece.now - c.loop-going.i) ((c.args.allowance - c.loop-going.spent)) c.loop-going.invariant.5 c.loop-going-test.true in
-    (omega arith, place-within _ _ c.loop-going.invariant.4) in
-    let k = inside in omega (arith, c.least.ensures)
-
-pub overflow_add-spent : goal.overflow_add-spent
-overflow_add-spent c =
-    let inside : (c.loop-going.i < length c.args.piece.now) × (place_in c.loop-going.fits c.loop-going.p < 24) = let h = going-left c.loop-going.going c.loop-going.fits (length c.args.piece.now - c.loop-going.i) ((c.args.allowance - c.loop-going.spent)) c.loop-going.invariant.5 c.loop-going-test.true in
-    (omega arith, place-within _ _ c.loop-going.invariant.4) in
-    let allowed : leb (ups_before c.loop-going.fits) ((c.args.allowance - c.loop-going.spent)) ≡ true = going-allowed c.loop-going.going c.loop-going.fits (length c.args.piece.now - c.loop-going.i) ((c.args.allowance - c.loop-going.spent)) c.loop-going.invariant.5 c.loop-going-test.true in
-    let turn : let m = c.least.result in (0 < m) × (c.loop-going.i + m ≤ length c.args.piece.now) × (c.place_in-q.result + m ≤ 24) × (c.loop-going.spent + c.ups_before-spent.result ≤ c.args.allowance) = let k = inside in
-    let g : ups_before c.loop-going.fits ≤ (c.args.allowance - c.loop-going.spent) = leb-true _ _ allowed in
-    let q = c.place_in-q.ensures in
-    let m = c.least.ensures in
-    (omega arith, omega arith, omega arith, omega arith) in
-    let k = turn in omega arith
-
-pub slice_bounds-stretch-count : goal.slice_bounds-stretch-count
-slice_bounds-stretch-count c =
-    let inside : (c.loop-going.i < length c.args.piece.now) × (place_in c.loop-going.fits c.loop-going.p < 24) = let h = going-left c.loop-going.going c.loop-going.fits (length c.args.piece.now - c.loop-going.i) ((c.args.allowance - c.loop-going.spent)) c.loop-going.invariant.5 c.loop-going-test.true in
-    (omega arith, place-within _ _ c.loop-going.invariant.4) in
-    let allowed : leb (ups_before c.loop-going.fits) ((c.args.allowance - c.loop-going.spent)) ≡ true = going-allowed c.loop-going.going c.loop-going.fits (length c.args.piece.now - c.loop-going.i) ((c.args.allowance - c.loop-going.spent)) c.loop-going.invariant.5 c.loop-going-test.true in
-    let turn : let m = c.least.result in (0 < m) × (c.loop-going.i + m ≤ length c.args.piece.now) × (c.place_in-q.result + m ≤ 24) × (c.loop-going.spent + c.ups_before-spent.result ≤ c.args.allowance) = let k = inside in
-    let g : ups_before c.loop-going.fits ≤ (c.args.allowance - c.loop-going.spent) = leb-true _ _ allowed in
-    let q = c.place_in-q.ensures in
-    let m = c.least.ensures in
-    (omega arith, omega arith, omega arith, omega arith) in
-    let k = turn in omega arith
-
-pub slice_bounds-stretch-start : goal.slice_bounds-stretch-start
-slice_bounds-stretch-start c =
-    let inside : (c.loop-going.i < length c.args.piece.now) × (place_in c.loop-going.fits c.loop-going.p < 24) = let h = going-left c.loop-going.going c.loop-going.fits (length c.args.piece.now - c.loop-going.i) ((c.args.allowance - c.loop-going.spent)) c.loop-going.invariant.5 c.loop-going-test.true in
-    (omega arith, place-within _ _ c.loop-going.invariant.4) in
-    let allowed : leb (ups_before c.loop-going.fits) ((c.args.allowance - c.loop-going.spent)) ≡ true = going-allowed c.loop-going.going c.loop-going.fits (length c.args.piece.now - c.loop-going.i) ((c.args.allowance - c.loop-going.spent)) c.loop-going.invariant.5 c.loop-going-test.true in
-    let turn : let m = c.least.result in (0 < m) × (c.loop-going.i + m ≤ length c.args.piece.now) × (c.place_in-q.result + m ≤ 24) × (c.loop-going.spent + c.ups_before-spent.result ≤ c.args.allowance) = let k = inside in
-    let g : ups_before c.loop-going.fits ≤ (c.args.allowance - c.loop-going.spent) = leb-true _ _ allowed in
-    let q = c.place_in-q.ensures in
-    let m = c.least.ensures in
-    (omega arith, omega arith, omega arith, omega arith) in
-    let k = turn in omega arith
-
-pub slice_bounds-stretch-end : goal.slice_bounds-stretch-end
-slice_bounds-stretch-end c =
-    let inside : (c.loop-going.i < length c.args.piece.now) × (place_in c.loop-going.fits c.loop-going.p < 24) = let h = going-left c.loop-going.going c.loop-going.fits (length c.args.piece.now - c.loop-going.i) ((c.args.allowance - c.loop-going.spent)) c.loop-going.invariant.5 c.loop-going-test.true in
-    (omega arith, place-within _ _ c.loop-going.invariant.4) in
-    let allowed : leb (ups_before c.loop-going.fits) ((c.args.allowance - c.loop-going.spent)) ≡ true = going-allowed c.loop-going.going c.loop-going.fits (length c.args.piece.now - c.loop-going.i) ((c.args.allowance - c.loop-going.spent)) c.loop-going.invariant.5 c.loop-going-test.true in
-    let turn : let m = c.least.result in (0 < m) × (c.loop-going.i + m ≤ length c.args.piece.now) × (c.place_in-q.result + m ≤ 24) × (c.loop-going.spent + c.ups_before-spent.result ≤ c.args.allowance) = let k = inside in
-    let g : ups_before c.loop-going.fits ≤ (c.args.allowance - c.loop-going.spent) = leb-true _ _ allowed in
-    let q = c.place_in-q.ensures in
-    let m = c.least.ensures in
-    (omega arith, omega arith, omega arith, omega arith) in
-    let k = turn in omega arith
-
-pub slice_bounds-stretch-count-in-loop-going : goal.slice_bounds-stretch-count-in-loop-going
-slice_bounds-stretch-count-in-loop-going c =
-    let inside : (c.loop-going.i < length c.args.piece.now) × (place_in c.loop-going.fits c.loop-going.p < 24) = let h = going-left c.loop-going.going c.loop-going.fits (length c.args.piece.now - c.loop-going.i) ((c.args.allowance - c.loop-going.spent)) c.loop-going.invariant.5 c.loop-going-test.true in
-    (omega arith, place-within _ _ c.loop-going.invariant.4) in
-    let allowed : leb (ups_before c.loop-going.fits) ((c.args.allowance - c.loop-going.spent)) ≡ true = going-allowed c.loop-going.going c.loop-going.fits (length c.args.piece.now - c.loop-going.i) ((c.args.allowance - c.loop-going.spent)) c.loop-going.invariant.5 c.loop-going-test.true in
-    let turn : let m = c.least.result in (0 < m) × (c.loop-going.i + m ≤ length c.args.piece.now) × (c.place_in-q.result + m ≤ 24) × (c.loop-going.spent + c.ups_before-spent.result ≤ c.args.allowance) = let k = inside in
-    let g : ups_before c.loop-going.fits ≤ (c.args.allowance - c.loop-going.spent) = leb-true _ _ allowed in
-    let q = c.place_in-q.ensures in
-    let m = c.least.ensures in
-    (omega arith, omega arith, omega arith, omega arith) in
-    let k = turn in omega arith
-
-pub slice_bounds-stretch-start-in-loop-going : goal.slice_bounds-stretch-start-in-loop-going
-slice_bounds-stretch-start-in-loop-going c =
-    let inside : (c.loop-going.i < length c.args.piece.now) × (place_in c.loop-going.fits c.loop-going.p < 24) = let h = going-left c.loop-going.going c.loop-going.fits (length c.args.piece.now - c.loop-going.i) ((c.args.allowance - c.loop-going.spent)) c.loop-going.invariant.5 c.loop-going-test.true in
-    (omega arith, place-within _ _ c.loop-going.invariant.4) in
-    let allowed : leb (ups_before c.loop-going.fits) ((c.args.allowance - c.loop-going.spent)) ≡ true = going-allowed c.loop-going.going c.loop-going.fits (length c.args.piece.now - c.loop-going.i) ((c.args.allowance - c.loop-going.spent)) c.loop-going.invariant.5 c.loop-going-test.true in
-    let turn : let m = c.least.result in (0 < m) × (c.loop-going.i + m ≤ length c.args.piece.now) × (c.place_in-q.result + m ≤ 24) × (c.loop-going.spent + c.ups_before-spent.result ≤ c.args.allowance) = let k = inside in
-    let g : ups_before c.loop-going.fits ≤ (c.args.allowance - c.loop-going.spent) = leb-true _ _ allowed in
-    let q = c.place_in-q.ensures in
-    let m = c.least.ensures in
-    (omega arith, omega arith, omega arith, omega arith) in
-    let k = turn in omega arith
-
-pub slice_bounds-stretch-end-in-loop-going : goal.slice_bounds-stretch-end-in-loop-going
-slice_bounds-stretch-end-in-loop-going c =
-    let inside : (c.loop-going.i < length c.args.piece.now) × (place_in c.loop-going.fits c.loop-going.p < 24) = let h = going-left c.loop-going.going c.loop-going.fits (length c.args.piece.now - c.loop-going.i) ((c.args.allowance - c.loop-going.spent)) c.loop-going.invariant.5 c.loop-going-test.true in
-    (omega arith, place-within _ _ c.loop-going.invariant.4) in
-    let allowed : leb (ups_before c.loop-going.fits) ((c.args.allowance - c.loop-going.spent)) ≡ true = going-allowed c.loop-going.going c.loop-going.fits (length c.args.piece.now - c.loop-going.i) ((c.args.allowance - c.loop-going.spent)) c.loop-going.invariant.5 c.loop-going-test.true in
-    let turn : let m = c.least.result in (0 < m) × (c.loop-going.i + m ≤ length c.args.piece.now) × (c.place_in-q.result + m ≤ 24) × (c.loop-going.spent + c.ups_before-spent.result ≤ c.args.allowance) = let k = inside in
-    let g : ups_before c.loop-going.fits ≤ (c.args.allowance - c.loop-going.spent) = leb-true _ _ allowed in
-    let q = c.place_in-q.ensures in
-    let m = c.least.ensures in
-    (omega arith, omega arith, omega arith, omega arith) in
-    let k = turn in omega arith
-
-pub stretch-d-requires : goal.stretch-d-requires
-stretch-d-requires c =
-    let inside : (c.loop-going.i < length c.args.piece.now) × (place_in c.loop-going.fits c.loop-going.p < 24) = let h = going-left c.loop-going.going c.loop-going.fits (length c.args.piece.now - c.loop-going.i) ((c.args.allowance - c.loop-going.spent)) c.loop-going.invariant.5 c.loop-going-test.true in
-    (omega arith, place-within _ _ c.loop-going.invariant.4) in
-    let allowed : leb (ups_before c.loop-going.fits) ((c.args.allowance - c.loop-going.spent)) ≡ true = going-allowed c.loop-going.going c.loop-going.fits (length c.args.piece.now - c.loop-going.i) ((c.args.allowance - c.loop-going.spent)) c.loop-going.invariant.5 c.loop-going-test.true in
-    let turn : let m = c.least.result in (0 < m) × (c.loop-going.i + m ≤ length c.args.piece.now) × (c.place_in-q.result + m ≤ 24) × (c.loop-going.spent + c.ups_before-spent.result ≤ c.args.allowance) = let k = inside in
-    let g : ups_before c.loop-going.fits ≤ (c.args.allowance - c.loop-going.spent) = leb-true _ _ allowed in
-    let q = c.place_in-q.ensures in
-    let m = c.least.ensures in
-    (omega arith, omega arith, omega arith, omega arith) in
-    let e = c.loop-going.i + c.least.result in
-    let k = turn in
-    let n = length-mid c.loop-going.i e c.args.piece.now k.1 in
-    let m = length-mid c.loop-going.i e c.loop-going.out (omega (arith, c.loop-going.invariant.1, c.requires.0)) in
-    let f : place_in c.loop-going.fits c.loop-going.p + (e - c.loop-going.i) ≤ 24 = omega (arith, k.2, c.place_in-q.ensures) in
-    (n ∙ sym m, rw n f, c.loop-going.invariant.4)
-
-pub overflow_sub-p : goal.overflow_sub-p
-overflow_sub-p c =
-    let inside : (c.loop-going.i < length c.args.piece.now) × (place_in c.loop-going.fits c.loop-going.p < 24) = let h = going-left c.loop-going.going c.loop-going.fits (length c.args.piece.now - c.loop-going.i) ((c.args.allowance - c.loop-going.spent)) c.loop-going.invariant.5 c.loop-going-test.true in
-    (omega arith, place-within _ _ c.loop-going.invariant.4) in
-    let allowed : leb (ups_before c.loop-going.fits) ((c.args.allowance - c.loop-going.spent)) ≡ true = going-allowed c.loop-going.going c.loop-going.fits (length c.args.piece.now - c.loop-going.i) ((c.args.allowance - c.loop-going.spent)) c.loop-going.invariant.5 c.loop-going-test.true in
-    let turn : let m = c.least.result in (0 < m) × (c.loop-going.i + m ≤ length c.args.piece.now) × (c.place_in-q.result + m ≤ 24) × (c.loop-going.spent + c.ups_before-spent.result ≤ c.args.allowance) = let k = inside in
-    let g : ups_before c.loop-going.fits ≤ (c.args.allowance - c.loop-going.spent) = leb-true _ _ allowed in
-    let q = c.place_in-q.ensures in
-    let m = c.least.ensures in
-    (omega arith, omega arith, omega arith, omega arith) in
-    let k = turn in omega arith
-
-pub overflow_add-p : goal.overflow_add-p
-overflow_add-p c =
-    let inside : (c.loop-going.i < length c.args.piece.now) × (place_in c.loop-going.fits c.loop-going.p < 24) = let h = going-left c.loop-going.going c.loop-going.fits (length c.args.piece.now - c.loop-going.i) ((c.args.allowance - c.loop-going.spent)) c.loop-going.invariant.5 c.loop-going-test.true in
-    (omega arith, place-within _ _ c.loop-going.invariant.4) in
-    let allowed : leb (ups_before c.loop-going.fits) ((c.args.allowance - c.loop-going.spent)) ≡ true = going-allowed c.loop-going.going c.loop-going.fits (length c.args.piece.now - c.loop-going.i) ((c.args.allowance - c.loop-going.spent)) c.loop-going.invariant.5 c.loop-going-test.true in
-    let turn : let m = c.least.result in (0 < m) × (c.loop-going.i + m ≤ length c.args.piece.now) × (c.place_in-q.result + m ≤ 24) × (c.loop-going.spent + c.ups_before-spent.result ≤ c.args.allowance) = let k = inside in
-    let g : ups_before c.loop-going.fits ≤ (c.args.allowance - c.loop-going.spent) = leb-true _ _ allowed in
-    let q = c.place_in-q.ensures in
-    let m = c.least.ensures in
-    (omega arith, omega arith, omega arith, omega arith) in
-    let k = turn in omega arith
-
-pub overflow_sub-n-in-loop-going : goal.overflow_sub-n-in-loop-going
-overflow_sub-n-in-loop-going c =
-    let inside : (c.loop-going.i < length c.args.piece.now) × (place_in c.loop-going.fits c.loop-going.p < 24) = let h = going-left c.loop-going.going c.loop-going.fits (length c.args.piece.now - c.loop-going.i) ((c.args.allowance - c.loop-going.spent)) c.loop-going.invariant.5 c.loop-going-test.true in
-    (omega arith, place-within _ _ c.loop-going.invariant.4) in
-    let allowed : leb (ups_before c.loop-going.fits) ((c.args.allowance - c.loop-going.spent)) ≡ true = going-allowed c.loop-going.going c.loop-going.fits (length c.args.piece.now - c.loop-going.i) ((c.args.allowance - c.loop-going.spent)) c.loop-going.invariant.5 c.loop-going-test.true in
-    let turn : let m = c.least.result in (0 < m) × (c.loop-going.i + m ≤ length c.args.piece.now) × (c.place_in-q.result + m ≤ 24) × (c.loop-going.spent + c.ups_before-spent.result ≤ c.args.allowance) = let k = inside in
-    let g : ups_before c.loop-going.fits ≤ (c.args.allowance - c.loop-going.spent) = leb-true _ _ allowed in
-    let q = c.place_in-q.ensures in
-    let m = c.least.ensures in
-    (omega arith, omega arith, omega arith, omega arith) in
-    let k = turn in omega arith
-
-pub overflow_sub-allowance : goal.overflow_sub-allowance
-overflow_sub-allowance c =
-    let inside : (c.loop-going.i < length c.args.piece.now) × (place_in c.loop-going.fits c.loop-going.p < 24) = let h = going-left c.loop-going.going c.loop-going.fits (length c.args.piece.now - c.loop-going.i) ((c.args.allowance - c.loop-going.spent)) c.loop-going.invariant.5 c.loop-going-test.true in
-    (omega arith, place-within _ _ c.loop-going.invariant.4) in
-    let allowed : leb (ups_before c.loop-going.fits) ((c.args.allowance - c.loop-going.spent)) ≡ true = going-allowed c.loop-going.going c.loop-going.fits (length c.args.piece.now - c.loop-going.i) ((c.args.allowance - c.loop-going.spent)) c.loop-going.invariant.5 c.loop-going-test.true in
-    let turn : let m = c.least.result in (0 < m) × (c.loop-going.i + m ≤ length c.args.piece.now) × (c.place_in-q.result + m ≤ 24) × (c.loop-going.spent + c.ups_before-spent.result ≤ c.args.allowance) = let k = inside in
-    let g : ups_before c.loop-going.fits ≤ (c.args.allowance - c.loop-going.spent) = leb-true _ _ allowed in
-    let q = c.place_in-q.ensures in
-    let m = c.least.ensures in
-    (omega arith, omega arith, omega arith, omega arith) in
-    let k = turn in omega arith
-
-pub loop-going-smaller : goal.loop-going-smaller
-loop-going-smaller c =
-    let inside : (c.loop-going.i < length c.args.piece.now) × (place_in c.loop-going.fits c.loop-going.p < 24) = let h = going-left c.loop-going.going c.loop-going.fits (length c.args.piece.now - c.loop-going.i) ((c.args.allowance - c.loop-going.spent)) c.loop-going.invariant.5 c.loop-going-test.true in
-    (omega arith, place-within _ _ c.loop-going.invariant.4) in
-    let allowed : leb (ups_before c.loop-going.fits) ((c.args.allowance - c.loop-going.spent)) ≡ true = going-allowed c.loop-going.going c.loop-going.fits (length c.args.piece.now - c.loop-going.i) ((c.args.allowance - c.loop-going.spent)) c.loop-going.invariant.5 c.loop-going-test.true in
-    let turn : let m = c.least.result in (0 < m) × (c.loop-going.i + m ≤ length c.args.piece.now) × (c.place_in-q.result + m ≤ 24) × (c.loop-going.spent + c.ups_before-spent.result ≤ c.args.allowance) = let k = inside in
-    let g : ups_before c.loop-going.fits ≤ (c.args.allowance - c.loop-going.spent) = leb-true _ _ allowed in
-    let q = c.place_in-q.ensures in
-    let m = c.least.ensures in
-    (omega arith, omega arith, omega arith, omega arith) in
-    let k = turn in omega arith
 
 pub loop-going-preserved : goal.loop-going-preserved
 loop-going-preserved c =
@@ -226,9 +42,6 @@ loop-going-preserved c =
       w.0,
       w.1 ∙ v.7,
     )
-
-pub shape_of-out : goal.shape_of-out
-shape_of-out c = omega arith
 
 pub returns : goal.returns
 returns c = let a = c.args in

@@ -7,14 +7,6 @@ use Rattle.xoodyak.specs.Shares.{key_share}
 use Rattle.xoodyak.proofs.Costs.{share-le, given-le, chosen-le}
 use Rattle.xoodyak.proofs.cyclist.Duplex.key_share.Goals as goal
 
-pub overflow_add-t : goal.overflow_add-t
-overflow_add-t c = let a = c.args in
-    omega (arith, c.chosen_length-t.ensures, chosen-le a.has_id (length a.id.now) (length a.nonce.now))
-
-pub overflow_add-key : goal.overflow_add-key
-overflow_add-key c = let a = c.args in
-    omega (arith, c.chosen_length-t.ensures, chosen-le a.has_id (length a.id.now) (length a.nonce.now))
-
 pub overflow_add-result : goal.overflow_add-result
 overflow_add-result c =
     let a = c.args in

@@ -12,19 +12,13 @@ use Rattle.xoodoo.specs.Xoodoo.{to_bytes, xoodoo}
 use Rattle.xoodyak.specs.Cyclist.{squeeze_rate, up, up_bytes, nexts_end, nexts_out, squeeze_more_end, squeeze_more_out}
 use Rattle.xoodyak.specs.declared.cyclist.Phase.TheVariants.{Up}
 use Rattle.xoodyak.proofs.BlockWords.{held}
-use Rattle.xoodyak.proofs.Turns.{rate-le, rate-pos, nexts-done-end, squeeze-out-is, squeeze-end-is}
+use Rattle.xoodyak.proofs.Turns.{nexts-done-end, squeeze-out-is, squeeze-end-is}
 use Rattle.xoodyak.proofs.cyclist.Duplex.squeeze_any.Goals as goal
-
-pub slice_bounds-write_front-end-2 : goal.slice_bounds-write_front-end-2
-slice_bounds-write_front-end-2 c = sym (length-take-le _ _ (omega arith))
-
-pub write_front-requires : goal.write_front-requires
-write_front-requires c = simp length-take (omega (arith, rate-le c.args.self.mode))
 
 pub returns-then-k-n : goal.returns-then-k-n
 unfolding squeeze_more_end squeeze_more_out nexts_out up up_bytes
 returns-then-k-n c =
-    let words : held Up c.args.self.mode (to_bytes c.permute_words-v.result) ≡ up c.args.self c.args.cu = ap (held Up c.args.self.mode) (c.permute_words-v.ensures ∙ ap xoodoo c.coloured.ensures) in
+    let words = ap (held Up c.args.self.mode) (c.permute_words-v.ensures ∙ ap xoodoo c.coloured.ensures) in
     let f = c.write_front in
     let a = c.args in
     let n = length a.out.now in
@@ -39,17 +33,12 @@ returns-then-k-n c =
     let ef : f.new.out ≡ take k t.st = f.ensures ∙ rw lk in
     let g : n ≤ length f.new.out = omega arith in
     let front : f.new.out ++ drop k a.out.now ≡ f.new.out = ap (λ j. f.new.out ++ drop j a.out.now) (sym lf) ∙ whole f.new.out a.out.now g in
-    let none : take k t.st ++ squeeze_more_out t (n - k) ≡ take k t.st = rw (sizes-zero r (n - k) z) (append-nil _) in record { value = c.after_up.ensures ∙ sym (nexts-done-end r n k t h) ∙ squeeze-end-is a.self t n k (n - k) a.cu e refl (words); out_after = front ∙ ef ∙ sym none ∙ squeeze-out-is a.self t n k (n - k) a.cu e refl (words) }
-
-pub squeeze_words-requires : goal.squeeze_words-requires
-squeeze_words-requires c =
-    let m = c.args.self.mode in
-    rw c.squeeze_rate-rate.ensures (rate-pos m, rate-le m)
+    let none : take k t.st ++ squeeze_more_out t (n - k) ≡ take k t.st = rw (sizes-zero r (n - k) z) (append-nil _) in record { value = c.after_up.ensures ∙ sym (nexts-done-end r n k t h) ∙ squeeze-end-is a.self t n k (n - k) a.cu e refl words; out_after = front ∙ ef ∙ sym none ∙ squeeze-out-is a.self t n k (n - k) a.cu e refl words }
 
 pub returns : goal.returns
 unfolding squeeze_more_end squeeze_more_out up up_bytes
 returns c =
-    let words : held Up c.args.self.mode (to_bytes c.permute_words-v.result) ≡ up c.args.self c.args.cu = ap (held Up c.args.self.mode) (c.permute_words-v.ensures ∙ ap xoodoo c.coloured.ensures) in
+    let words = ap (held Up c.args.self.mode) (c.permute_words-v.ensures ∙ ap xoodoo c.coloured.ensures) in
     let b = c.squeeze_words in
     let f = c.write_front in
     let a = c.args in
@@ -65,7 +54,7 @@ returns c =
     let d = length (take (length w - k) (drop k w)) in
     let em : d ≡ n - k = simp (length-take, length-drop, length-append) (omega arith) in
     let e : k ≡ min (squeeze_rate m) n = omega arith in record {
-      value = c.after_up-2.ensures ∙ b.ensures.phase_value m ∙ ap (λ q. nexts_end (sizes q d) t) r.ensures ∙ squeeze-end-is a.self t n k d a.cu e em (words);
+      value = c.after_up-2.ensures ∙ b.ensures.phase_value m ∙ ap (λ q. nexts_end (sizes q d) t) r.ensures ∙ squeeze-end-is a.self t n k d a.cu e em words;
       out_after = put-front-tail k f.new.out a.out.now b.new.out lf
           ∙ rw (ef, b.ensures.out_after m, r.ensures) (squeeze-out-is a.self t n k d a.cu e em words);
     }

@@ -8,7 +8,7 @@ use Rattle.laws.specs.Blocks.{sizes}
 use Rattle.xoodyak.specs.Cyclist.{squeeze_rate, nexts_end, nexts_out, squeeze_more_end, squeeze_more_out}
 use Rattle.xoodyak.specs.declared.cyclist.Phase.TheVariants.{Up}
 use Rattle.xoodyak.proofs.BlockWords.{held}
-use Rattle.xoodyak.proofs.Turns.{rate-le, rate-pos, nexts-start-end, nexts-start-out, nexts-done-end, nexts-done-out}
+use Rattle.xoodyak.proofs.Turns.{rate-pos, nexts-start-end, nexts-start-out, nexts-done-end, nexts-done-out}
 use Rattle.xoodyak.proofs.cyclist.Duplex.squeeze_more.Goals as goal
 
 pub returns-then-n-eq0 : goal.returns-then-n-eq0
@@ -18,11 +18,6 @@ returns-then-n-eq0 c =
     let o = a.out.now in
     let r = squeeze_rate a.self.mode in
     let h : length o ≤ 0 = omega arith in record { value = sym (ap (λ k. nexts_end (sizes r k) a.self) (sym (sub-zero (length o))) ∙ nexts-done-end r (length o) 0 a.self h); out_after = sym (ap (λ k. nexts_out (sizes r k) a.self) (sym (sub-zero (length o))) ∙ nexts-done-out r (length o) 0 o a.self h refl) }
-
-pub squeeze_words-requires : goal.squeeze_words-requires
-squeeze_words-requires c =
-    let m = c.args.self.mode in
-    rw c.squeeze_rate-rate.ensures (rate-pos m, rate-le m)
 
 pub returns : goal.returns
 unfolding squeeze_more_end squeeze_more_out

@@ -1,5 +1,0 @@
--- Both rules, as the definition goes by them.
-use Rattle.xoodyak.proofs.Session.is_empty_block.Goals as goal
-
-pub returns-in-Specification : goal.returns-in-Specification
-returns-in-Specification c = rw c.in-Specification.is
