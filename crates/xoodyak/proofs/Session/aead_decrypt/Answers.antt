@@ -24,7 +24,7 @@ pub overflow_sub-n : goal.overflow_sub-n
 overflow_sub-n c =
     let short = c.first-short.ensures ∙ ap₂ first c.keyed_number.ensures c.tail_number.ensures in
     let tagged = long c.args.self _ c.if-short-ne0.false _ short in
-    let h = tagged in search rules
+    search rules
 
 pub returns-then-number-ne0 : goal.returns-then-number-ne0
 returns-then-number-ne0 c =
@@ -36,13 +36,12 @@ returns-then-number-ne0 c =
 pub copy_into-requires : goal.copy_into-requires
 copy_into-requires c =
     let room = room_fits _ _ (sym c.room_number-number.ensures ∙ c.if-number-ne0.false) in
-    let h = room in simp length-take (omega arith)
+    simp length-take (omega arith)
 
 pub same_bytes-requires : goal.same_bytes-requires
 same_bytes-requires c =
     let short = c.first-short.ensures ∙ ap₂ first c.keyed_number.ensures c.tail_number.ensures in
     let tagged = long c.args.self _ c.if-short-ne0.false _ short in
-    let h = tagged in
     simp (length-take, length-drop) (omega (arith, c.squeeze_tag-t.auto.out))
 
 pub returns-then-same_bytes : goal.returns-then-same_bytes
@@ -54,8 +53,7 @@ returns-then-same_bytes c =
     let t = c.squeeze_tag-t in
     let f = c.decrypt_message-s in
     let w = c.copy_into in
-    let h = tagged in
-    let outcome = open-copy c.args.self f.result t.result (take (length c.args.bin.now - 16) w.new.dst) f.new.buf t.new.out _ c.same_bytes.result f.ensures.value f.ensures.buf_after t.ensures.value t.ensures.out_after c.same_bytes.ensures _ c.if-number-ne0.false c.args.out.now c.args.bin.now w.new.dst h number w.ensures refl (take_all (length c.args.bin.now - (length c.args.bin.now - 16)) (drop (length c.args.bin.now - 16) c.args.bin.now) (rw length-drop (le_refl _))) in
+    let outcome = open-copy c.args.self f.result t.result (take (length c.args.bin.now - 16) w.new.dst) f.new.buf t.new.out _ c.same_bytes.result f.ensures.value f.ensures.buf_after t.ensures.value t.ensures.out_after c.same_bytes.ensures _ c.if-number-ne0.false c.args.out.now c.args.bin.now w.new.dst tagged number w.ensures refl (take_all (length c.args.bin.now - (length c.args.bin.now - 16)) (drop (length c.args.bin.now - 16) c.args.bin.now) (rw length-drop (le_refl _))) in
     let e = same _ _ _ _ _ _ c.if-same_bytes.true outcome in
     record { value = c.paid.ensures ∙ rw (open-cost c.args.self (take (length c.args.bin.now - 16) c.copy_into.new.dst) _ _ (sym (length-take-le _ c.copy_into.new.dst (omega (arith, c.copy_into.auto.dst, room)))) c.seal_share.ensures) (ap answer_of e); out_after = ap (λ (x : Outcome). x.bytes) e }
 
@@ -69,8 +67,7 @@ returns c =
     let t = c.squeeze_tag-t in
     let f = c.decrypt_message-s in
     let w = c.copy_into in
-    let h = tagged in
-    let outcome = open-copy c.args.self f.result t.result (take (length c.args.bin.now - 16) w.new.dst) f.new.buf t.new.out _ c.same_bytes.result f.ensures.value f.ensures.buf_after t.ensures.value t.ensures.out_after c.same_bytes.ensures _ c.if-number-ne0.false c.args.out.now c.args.bin.now w.new.dst h number w.ensures refl (take_all (length c.args.bin.now - (length c.args.bin.now - 16)) (drop (length c.args.bin.now - 16) c.args.bin.now) (rw length-drop (le_refl _))) in
+    let outcome = open-copy c.args.self f.result t.result (take (length c.args.bin.now - 16) w.new.dst) f.new.buf t.new.out _ c.same_bytes.result f.ensures.value f.ensures.buf_after t.ensures.value t.ensures.out_after c.same_bytes.ensures _ c.if-number-ne0.false c.args.out.now c.args.bin.now w.new.dst tagged number w.ensures refl (take_all (length c.args.bin.now - (length c.args.bin.now - 16)) (drop (length c.args.bin.now - 16) c.args.bin.now) (rw length-drop (le_refl _))) in
     let e = differs _ _ _ _ _ _ c.if-same_bytes.false outcome in
     let k = c.clear in
-    record { value = c.paid-2.ensures ∙ rw (open-cost c.args.self (take (length c.args.bin.now - 16) c.copy_into.new.dst) _ _ (sym (length-take-le _ c.copy_into.new.dst (omega (arith, c.copy_into.auto.dst, room)))) c.seal_share-2.ensures) (ap answer_of e); out_after = zeroed-whole _ ((c.decrypt_message-s.new.buf ++ drop (length c.args.bin.now - 16) c.copy_into.new.dst)) k.new.buf whole k.ensures ∙ ap (λ (x : Outcome). x.bytes) e }
+    record { value = c.paid-2.ensures ∙ rw (open-cost c.args.self (take (length c.args.bin.now - 16) c.copy_into.new.dst) _ _ (sym (length-take-le _ c.copy_into.new.dst (omega (arith, c.copy_into.auto.dst, room)))) c.seal_share-2.ensures) (ap answer_of e); out_after = zeroed-whole _ (c.decrypt_message-s.new.buf ++ drop (length c.args.bin.now - 16) c.copy_into.new.dst) k.new.buf whole k.ensures ∙ ap (λ (x : Outcome). x.bytes) e }

@@ -24,15 +24,13 @@ pub overflow_sub-n : goal.overflow_sub-n
 overflow_sub-n c =
     let number = c.first-number.ensures ∙ ap₂ first c.keyed_number.ensures c.tail_number.ensures in
     let room = long c.args.self _ c.if-number-ne0.false _ number in
-    let h = room in search rules
+    search rules
 
 pub same_bytes-requires : goal.same_bytes-requires
 same_bytes-requires c =
     let front : length c.decrypt_message-s.new.buf ≡ length c.args.in_out.now - 16 = c.decrypt_message-s.auto.buf ∙ length-take-le _ c.args.in_out.now (omega arith) in
     let number = c.first-number.ensures ∙ ap₂ first c.keyed_number.ensures c.tail_number.ensures in
     let room = long c.args.self _ c.if-number-ne0.false _ number in
-    let h = room in
-    let l = front in
     simp (length-take, length-drop, length-append) (omega (arith, c.squeeze_tag-past.auto.out))
 
 pub returns-then-same_bytes : goal.returns-then-same_bytes

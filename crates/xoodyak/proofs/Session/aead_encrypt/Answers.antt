@@ -21,14 +21,14 @@ returns-then-number-ne0 c =
 pub copy_into-requires : goal.copy_into-requires
 copy_into-requires c =
     let number = c.first-number.ensures ∙ ap₂ first c.keyed_number-keyed.ensures c.room_number-room.ensures in
-    let room : length c.or_empty-m.result.now + 16 ≤ length (c.args.out.now) = fits c.args.self _ c.if-number-ne0.false _ _ number in
-    let h = room in omega arith
+    let room : length c.or_empty-m.result.now + 16 ≤ length c.args.out.now = fits c.args.self _ c.if-number-ne0.false _ _ number in
+    omega arith
 
 pub slice_bounds-squeeze_tag-end : goal.slice_bounds-squeeze_tag-end
 slice_bounds-squeeze_tag-end c =
     let number = c.first-number.ensures ∙ ap₂ first c.keyed_number-keyed.ensures c.room_number-room.ensures in
-    let room : length c.or_empty-m.result.now + 16 ≤ length (c.args.out.now) = fits c.args.self _ c.if-number-ne0.false _ _ number in
-    let h = room in search rules
+    let room : length c.or_empty-m.result.now + 16 ≤ length c.args.out.now = fits c.args.self _ c.if-number-ne0.false _ _ number in
+    search rules
 
 pub returns : goal.returns
 returns c =

@@ -20,8 +20,8 @@ returns-then-number-ne0 c =
 pub copy_into-requires : goal.copy_into-requires
 copy_into-requires c =
     let number = c.first-number.ensures ∙ ap₂ first c.keyed_number.ensures c.room_number.ensures in
-    let room : length c.or_empty-m.result.now ≤ length (c.args.out.now) = fits c.args.self _ c.if-number-ne0.false _ _ number in
-    let h = room in omega arith
+    let room : length c.or_empty-m.result.now ≤ length c.args.out.now = fits c.args.self _ c.if-number-ne0.false _ _ number in
+    omega arith
 
 pub returns : goal.returns
 returns c =

@@ -13,8 +13,8 @@ use Rattle.xoodyak.proofs.cyclist.Duplex.feed.Goals as goal
 
 pub loop-going-preserved : goal.loop-going-preserved
 loop-going-preserved c =
-    let allowed : leb (ups_before c.loop-going.fits) ((c.args.allowance - c.loop-going.spent)) ≡ true = going-allowed c.loop-going.going c.loop-going.fits (length c.args.piece.now - c.loop-going.i) ((c.args.allowance - c.loop-going.spent)) c.loop-going.invariant.5 c.loop-going-test.true in
-    let inside : (c.loop-going.i < length c.args.piece.now) × (place_in c.loop-going.fits c.loop-going.p < 24) = let h = going-left c.loop-going.going c.loop-going.fits (length c.args.piece.now - c.loop-going.i) ((c.args.allowance - c.loop-going.spent)) c.loop-going.invariant.5 c.loop-going-test.true in
+    let allowed : leb (ups_before c.loop-going.fits) (c.args.allowance - c.loop-going.spent) ≡ true = going-allowed c.loop-going.going c.loop-going.fits (length c.args.piece.now - c.loop-going.i) (c.args.allowance - c.loop-going.spent) c.loop-going.invariant.5 c.loop-going-test.true in
+    let inside : (c.loop-going.i < length c.args.piece.now) × (place_in c.loop-going.fits c.loop-going.p < 24) = let h = going-left c.loop-going.going c.loop-going.fits (length c.args.piece.now - c.loop-going.i) (c.args.allowance - c.loop-going.spent) c.loop-going.invariant.5 c.loop-going-test.true in
     (omega arith, place-within _ _ c.loop-going.invariant.4) in
     let turn : let m = c.least.result in (0 < m) × (c.loop-going.i + m ≤ length c.args.piece.now) × (c.place_in-q.result + m ≤ 24) × (c.loop-going.spent + c.ups_before-spent.result ≤ c.args.allowance) = let k = inside in
     let g : ups_before c.loop-going.fits ≤ (c.args.allowance - c.loop-going.spent) = leb-true _ _ allowed in
@@ -47,7 +47,7 @@ pub returns : goal.returns
 returns c = let a = c.args in
     let v = c.loop-going.invariant in
     let n : length (drop c.loop-going.i c.args.piece.now) ≡ length c.args.piece.now - c.loop-going.i = length-drop c.loop-going.i c.args.piece.now in
-    let g = feed-stops a.kind ((c.args.allowance - c.loop-going.spent)) c.loop-going.p c.loop-going.d (drop c.loop-going.i c.args.piece.now) c.loop-going.fits c.loop-going.going v.4 (rw n v.5) c.loop-going-test.false in
+    let g = feed-stops a.kind (c.args.allowance - c.loop-going.spent) c.loop-going.p c.loop-going.d (drop c.loop-going.i c.args.piece.now) c.loop-going.fits c.loop-going.going v.4 (rw n v.5) c.loop-going-test.false in
     let h : c.loop-going.i ≤ length c.loop-going.out = omega (arith, v.0, v.1, c.requires.0) in
     let w = feed-done a.kind a.allowance c.loop-going.p c.loop-going.spent c.loop-going.i c.loop-going.d c.args.piece.now c.loop-going.out a.out.now _ g h v.6 v.7 in
     record { duplex_value = w.0; place_bound = v.3; out_after = w.1 }
