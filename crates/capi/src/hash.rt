@@ -10,7 +10,8 @@ use xoodyak::Session;
 pub fn lafomeihu_hash(st: &mut [u8; 48], head: &mut [u8; 6], rule: u8) -> u8
     ensures { let x = exported (ltb rule 2) st.old head.old [] [] [] (λ _. whole (taken (session (rule_of rule) Hash) no_tag [] 0)) in (result ≡ x.number) × ((st.new ≡ x.st) × (head.new ≡ x.head)) }
 {
-    if rule < 2 {
+    let known = rule < 2;
+    if known {
         let r = rule_of(rule);
         let s = Session::hash(r);
         put(st, head, s);

@@ -14,6 +14,7 @@ pub(crate) fn first(a: u8, b: u8) -> u8
 }
 
 // Each length is tested against what is left, so that no sum of lengths wraps.
+#[tactic(auto, using(crate::proofs::Settle::key_numbers))]
 pub(crate) fn key_number(key: usize, id: usize, nonce: usize) -> u8
     ensures { result ≡ key_number key id nonce }
 {
