@@ -49,7 +49,7 @@ unfolding word_bytes byte_of
 bytes_of w = let e : w / 2 ^ 0 % 2 ^ 8 ≡ w % 256 = omega arith in ap (λ b. b ∷ w / 2 ^ 8 % 2 ^ 8 ∷ w / 2 ^ 16 % 2 ^ 8 ∷ w / 2 ^ 24 % 2 ^ 8 ∷ []) e
 
 -- over a whole run
-sets-all : (vs l : List ℕ) → length vs ≡ length l → sets l 0 vs ≡ vs
+pub sets-all : (vs l : List ℕ) → length vs ≡ length l → sets l 0 vs ≡ vs
 sets-all vs l e =
     let h : length l ≤ 0 + length vs = omega arith in sets-eq vs l 0 (omega arith) ∙ rw (drop_of_length-le l h) (append-nil vs)
 
@@ -62,6 +62,12 @@ pub put_six : (b : List ℕ) (s : Six) → length b ≡ 24 →
     ≡ six_bytes s
 unfolding six_bytes word_bytes
 put_six b s l = sets-all (six_bytes s) b (sym l)
+
+pub put-eleven : (b : List ℕ) (s : Eleven) → length b ≡ 44 →
+    sets (sets (sets (sets (sets b 0 (plane_bytes s.p0)) 16 (plane_bytes s.p1)) 32 (word_bytes s.x0)) 36 (word_bytes s.x1)) 40 (word_bytes s.x2)
+    ≡ eleven_bytes s
+unfolding eleven_bytes plane_bytes word_bytes
+put-eleven b s l = sets-all (eleven_bytes s) b (sym l)
 
 -- ---- the block of which only the first byte is not 0
 pub one-bytes : plane_bytes (record { x0 = 1; x1 = 0; x2 = 0; x3 = 0 }) ≡ 1 ∷ replicate 15 0

@@ -1,13 +1,14 @@
 -- 48 bytes and a state of words are in bijection.
 use mathlib.Core.Path.{◌≡◌, refl, sym, ap, ap₂, ◌∙◌}
-use mathlib.Core.List.{List, [], ◌∷◌, ◌++◌, append-nil}
-use Prim.Native.Nat.{ℕ, ◌+◌, ◌/◌, ◌%◌, ◌^◌, ◌≤◌, ◌<◌}
+use mathlib.Core.List.{List, [], ◌∷◌, ◌++◌, append-nil, append_assoc}
+use Prim.Native.Nat.{ℕ, ◌+◌, ◌-◌, ◌/◌, ◌%◌, ◌^◌, ◌≤◌, ◌<◌}
 use native.Mathlib.Nat.{add-zero}
 use native.Mathlib.Omega.{arith}
 use lib.ListN.{length, get_or, take, drop, length-append, length-drop, drop_of_length-le}
 use lib.Seq.{take_all, take-add, drop-drop, get_or-drop, sets, sets-eq}
+use borrow.Rule.Slice.PartMut.{put_mid, Post-is}
 use Rattle.laws.specs.Lists.{All, Bytes48}
-use Rattle.laws.proofs.Bytes.{all_get_d, all_append, sets_then}
+use Rattle.laws.proofs.Bytes.{all_get_d, all_of, all_append, sets_then}
 use Rattle.xoodoo.specs.Xoodoo.{word_of, word_at, plane_at, from_bytes, byte_of, word_bytes, plane_bytes, to_bytes}
 use Rattle.xoodoo.specs.declared.round.Plane.{Plane}
 use Rattle.xoodoo.specs.declared.round.State.{State}
@@ -96,6 +97,10 @@ module _ (b : List ℕ) (h : All 256 b) where
   unfolding plane_at
   plane-at-words i = record { w0 = word-at-lt i; w1 = word-at-lt (i + 4); w2 = word-at-lt (i + 8); w3 = word-at-lt (i + 12) }
 
+-- what a function is told of 48 bytes that it is lent
+pub lent-bytes : {b : List ℕ} → length b ≡ 48 → ((i : ℕ) → get_or b i 0 < 256) → Bytes48 b
+lent-bytes {b} n h = record { size = n; bytes = all_of 256 b h }
+
 pub from-good : {b : List ℕ} → Bytes48 b → Good (from_bytes b)
 unfolding from_bytes
 from-good {b} h =
@@ -144,6 +149,10 @@ to-from {b} h =
     (take_all 48 b (omega arith))
 
 -- ---- the bytes written word by word, and plane by plane
+-- a run that is copied over another is stored byte by byte
+pub put-sets : (b vs : List ℕ) (i e : ℕ) → e ≡ i + length vs → e ≤ length b → put_mid i (e - i) b vs ≡ sets b i vs
+put-sets b vs i e q h = rw (Post-is i e b (omega arith), sets-eq vs b i (omega arith), append_assoc, q) refl
+
 pub word_size : (w : ℕ) → length (word_bytes w) ≡ 4
 unfolding word_bytes
 word_size w = refl

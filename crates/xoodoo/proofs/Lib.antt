@@ -11,3 +11,4 @@ pub mod Nots
 pub mod Known
 pub mod Runs
 pub mod BlockBytes
+pub mod Gains

@@ -4,6 +4,13 @@ use Rattle.laws.specs.Lists.{add_front, add_at}
 use Rattle.xoodoo.specs.Xoodoo.{xoodoo_rounds, inverse_rounds}
 use Rattle.xoodoo.specs.declared.Answer.{Answer}
 use Rattle.xoodoo.specs.declared.Xoodoo.{Xoodoo}
+use Rattle.xoodoo.specs.declared.Refusal.{Refusal}
+use Rattle.xoodoo.specs.declared.Refusal.TheVariants.{OutOfBounds, TooManyRounds}
+
+-- the number of a refusal
+abbrev pub number : Refusal → ℕ
+number OutOfBounds = 6
+number TooManyRounds = 11
 
 -- where it is in bounds the state has the new bytes, else the number is n
 abbrev pub answer : Bool → ℕ → Xoodoo → List ℕ → Answer

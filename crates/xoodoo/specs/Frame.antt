@@ -7,6 +7,10 @@ use Rattle.xoodoo.specs.Xoodoo.{each}
 use Rattle.xoodoo.specs.declared.round.Plane.{Plane}
 use Rattle.xoodoo.specs.declared.round.State.{State}
 
+-- f of each word of the one plane and the other's in its column
+abbrev pub both : (ℕ → ℕ → ℕ) → Plane → Plane → Plane
+both f p q = record { x0 = f p.x0 q.x0; x1 = f p.x1 q.x1; x2 = f p.x2 q.x2; x3 = f p.x3 q.x3 }
+
 unfoldable pub turned : ℕ → State → State
 turned k s = record { p0 = each (rotl k) s.p0; p1 = each (rotl k) s.p1; p2 = each (rotl k) s.p2 }
 

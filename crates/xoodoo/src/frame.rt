@@ -6,18 +6,19 @@ ghost use Rattle.xoodoo.specs.Xoodoo as xoodoo;
 ghost use Rattle.xoodoo.specs.Frame.{turned, not_one, not_two};
 
 use crate::complement::{chi_to_one, chi_to_two, not_one};
-use crate::round::{ROUND_KEYS, State, iota, rho_west, rotated, rotated4, theta, up};
+use crate::round::{ROUND_KEYS, State, iota, rho_west, theta};
 
 fn rho_east_turned(s: State) -> State
     ensures { result ≡ turned 24 (xoodoo.rho_east s) }
 {
     State {
-        p0: rotated4(s.p0, 24),
-        p1: rotated4(s.p1, 25),
-        p2: up(up(s.p2)),
+        p0: s.p0.rotate_left(24),
+        p1: s.p1.rotate_left(25),
+        p2: s.p2.up().up(),
     }
 }
 
+// These two are one line each: with chi as a parameter both would stay, for what each promises, and a third would stand beside them.
 fn round_to_two(c: u32, s: State) -> State
     ensures { result ≡ not_two (turned 24 (xoodoo.round c (not_one s))) }
 {
@@ -33,20 +34,16 @@ fn round_to_one(c: u32, s: State) -> State
 fn four_rounds(a: u32, b: u32, c: u32, d: u32, s: State) -> State
     ensures { result ≡ not_one (xoodoo.rounds (a ∷ b ∷ c ∷ d ∷ []) (not_one s)) }
 {
-    let t = round_to_one(rotated(b, 24), round_to_two(a, s));
-    round_to_one(rotated(d, 8), round_to_two(rotated(c, 16), t))
+    let t = round_to_one(b.rotate_left(24), round_to_two(a, s));
+    round_to_one(d.rotate_left(8), round_to_two(c.rotate_left(16), t))
 }
 
 pub(crate) fn twelve_rounds(s: State) -> State
     ensures { result ≡ xoodoo.rounds xoodoo.constants s }
 {
-    // copied once: an index into the constant itself would build the table at each read
-    let keys = ROUND_KEYS;
     let mut t = not_one(s);
-    let mut i: usize = 0;
-    while i < 12 {
-        t = four_rounds(keys[i], keys[i + 1], keys[i + 2], keys[i + 3], t);
-        i += 4;
+    for [a, b, c, d] in ROUND_KEYS.as_chunks::<4>().0 {
+        t = four_rounds(*a, *b, *c, *d, t);
     }
     not_one(t)
 }

@@ -3,10 +3,11 @@
 
 ghost use Rattle.std.specs.Prelude.{◌≡◌, replicate};
 ghost use Rattle.xoodoo.specs.Xoodoo as xoodoo;
-ghost use Rattle.xoodoo.specs.Calls.{add_byte_of, add_bytes_of, extract_bytes_of, rounds_of, unrounds_of};
+ghost use Rattle.xoodoo.specs.Calls.{number, add_byte_of, add_bytes_of, extract_bytes_of, rounds_of, unrounds_of};
 
 mod complement;
 mod frame;
+mod plane;
 pub mod round;
 mod unround;
 pub mod words;
@@ -21,136 +22,136 @@ pub struct Xoodoo {
     pub st: [u8; 48],
 }
 
-// A state, and 0, or 6 or 11 where the call was refused and the state is the one that was given.
+// A state, and 0, or the number of a refusal where the call was refused and the state is the one that was given. A number and no `Result`:
+// by the rules of this project public calls refuse by a number beside the state.
 #[derive(Clone, Copy)]
 pub struct Answer {
     pub state: Xoodoo,
     pub number: u8,
 }
 
-impl Xoodoo {
-    // 48 zeros.
-    pub fn default() -> Xoodoo
-        ensures { result ≡ record { st = replicate 48 0 } }
+// Why a call is refused, by the number that the caller gets.
+#[derive(Clone, Copy)]
+enum Refusal {
+    OutOfBounds = 6,
+    TooManyRounds = 11,
+}
+
+impl Refusal {
+    fn number(self) -> u8
+        ensures { result ≡ number self }
     {
-        Xoodoo { st: [0; 48] }
+        self as u8
+    }
+}
+
+impl Answer {
+    fn done(state: Xoodoo) -> Self
+        ensures { result ≡ record { state = state; number = 0 } }
+    {
+        Self { state, number: 0 }
     }
 
-    pub fn from_bytes(bytes: [u8; 48]) -> Xoodoo
+    fn refused(state: Xoodoo, why: Refusal) -> Self
+        ensures { result ≡ record { state = state; number = number why } }
+    {
+        Self {
+            state,
+            number: why.number(),
+        }
+    }
+}
+
+impl Xoodoo {
+    // 48 zeros.
+    pub fn default() -> Self
+        ensures { result ≡ record { st = replicate 48 0 } }
+    {
+        Self { st: [0; 48] }
+    }
+
+    pub fn from_bytes(bytes: [u8; 48]) -> Self
         ensures { result ≡ record { st = bytes } }
     {
-        Xoodoo { st: bytes }
+        Self { st: bytes }
     }
 
     pub fn bytes(self, out: &mut [u8; 48])
         ensures { out.new ≡ self.st }
     {
-        let st = self.st;
-        *out = st;
+        out.copy_from_slice(&self.st);
     }
 
     pub fn add_byte(self, byte: u8, offset: usize) -> Answer
         ensures { result ≡ add_byte_of self byte offset }
     {
-        if offset <= 47 {
-            let mut t = self;
-            t.st[offset] = t.st[offset] ^ byte;
-            return Answer {
-                state: t,
-                number: 0,
-            };
+        if offset > 47 {
+            return Answer::refused(self, Refusal::OutOfBounds);
         }
-        Answer {
-            state: self,
-            number: 6,
-        }
+        let mut st = self.st;
+        st[offset] ^= byte;
+        Answer::done(Self { st })
     }
 
     pub fn add_bytes(self, bytes: &[u8]) -> Answer
         ensures { result ≡ add_bytes_of self bytes.now }
     {
-        if bytes.len() <= 48 {
-            let mut t = self;
-            let mut i: usize = 0;
-            while i < bytes.len() {
-                t.st[i] = t.st[i] ^ bytes[i];
-                i += 1;
-            }
-            return Answer {
-                state: t,
-                number: 0,
-            };
+        if bytes.len() > 48 {
+            return Answer::refused(self, Refusal::OutOfBounds);
         }
-        Answer {
-            state: self,
-            number: 6,
+        let mut st = self.st;
+        for (i, byte) in bytes.iter().enumerate() {
+            st[i] ^= *byte;
         }
+        Answer::done(Self { st })
     }
 
     pub fn extract_bytes(self, out: &mut [u8]) -> u8
         ensures value { result ≡ (extract_bytes_of self out.old).number }
         ensures out_after { out.new ≡ (extract_bytes_of self out.old).bytes }
     {
-        if out.len() <= 48 {
-            let mut i: usize = 0;
-            while i < out.len() {
-                out[i] = self.st[i];
-                i += 1;
-            }
-            return 0;
+        let n = out.len();
+        if n > 48 {
+            return Refusal::OutOfBounds.number();
         }
-        6
+        out.copy_from_slice(&self.st[..n]);
+        0
     }
 
     // The last n of the twelve rounds; 11 where n is above 12.
     pub fn rounds(self, n: usize) -> Answer
         ensures { result ≡ rounds_of self n }
     {
-        if n <= 12 {
-            let st = self.st;
-            let after = from_words(rounds(n, load(&st)));
-            return Answer {
-                state: Xoodoo { st: after },
-                number: 0,
-            };
+        if n > 12 {
+            return Answer::refused(self, Refusal::TooManyRounds);
         }
-        Answer {
-            state: self,
-            number: 11,
-        }
+        let st = from_words(rounds(n, load(&self.st)));
+        Answer::done(Self { st })
     }
 
     // The last n of the twelve rounds taken back; 11 where n is above 12.
+    // Like `rounds` but for one call: told which, one function for both would be a third, since both are public.
     pub fn unrounds(self, n: usize) -> Answer
         ensures { result ≡ unrounds_of self n }
     {
-        if n <= 12 {
-            let st = self.st;
-            let before = from_words(unrounds(n, load(&st)));
-            return Answer {
-                state: Xoodoo { st: before },
-                number: 0,
-            };
+        if n > 12 {
+            return Answer::refused(self, Refusal::TooManyRounds);
         }
-        Answer {
-            state: self,
-            number: 11,
-        }
+        let st = from_words(unrounds(n, load(&self.st)));
+        Answer::done(Self { st })
     }
 
-    pub fn permute(self) -> Xoodoo
+    pub fn permute(mut self) -> Self
         ensures { result ≡ record { st = xoodoo.xoodoo self.st } }
     {
-        let mut st = self.st;
-        permute_bytes(&mut st);
-        Xoodoo { st: st }
+        permute_bytes(&mut self.st);
+        self
     }
 
-    pub fn inverse(self) -> Xoodoo
+    pub fn inverse(mut self) -> Self
         ensures { result ≡ record { st = xoodoo.inverse self.st } }
     {
-        let mut before = self.st;
-        inverse_bytes(&mut before);
-        Xoodoo { st: before }
+        inverse_bytes(&mut self.st);
+        self
     }
 }

@@ -4,10 +4,10 @@ use Rattle.laws.specs.Words.{◌⊕◌}
 use Rattle.xoodoo.specs.Calls.{add_byte_of}
 use Rattle.xoodoo.proofs.Xoodoo.add_byte.Goals as goal
 
-pub returns-then-offset-le47 : goal.returns-then-offset-le47
-unfolding add_byte_of ◌⊕◌
-returns-then-offset-le47 c = simp (le-leb _ _ c.if-offset-le47.true)
+pub returns-then-offset-gt47 : goal.returns-then-offset-gt47
+unfolding add_byte_of
+returns-then-offset-gt47 c = rw (lt-leb _ _ c.if-offset-gt47.true) c.refused.ensures
 
 pub returns : goal.returns
-unfolding add_byte_of
-returns c = simp (lt-leb _ _ c.if-offset-le47.false)
+unfolding add_byte_of ◌⊕◌
+returns c = rw (le-leb _ _ c.if-offset-gt47.false) c.done.ensures

@@ -4,10 +4,10 @@ use Rattle.xoodoo.specs.Xoodoo.{xoodoo_rounds}
 use Rattle.xoodoo.specs.Calls.{rounds_of}
 use Rattle.xoodoo.proofs.Xoodoo.rounds.Goals as goal
 
-pub returns-then-n-le12 : goal.returns-then-n-le12
-unfolding rounds_of xoodoo_rounds
-returns-then-n-le12 c = rw (le-leb _ _ c.if-n-le12.true) (cc)
+pub returns-then-n-gt12 : goal.returns-then-n-gt12
+unfolding rounds_of
+returns-then-n-gt12 c = rw (lt-leb _ _ c.if-n-gt12.true) c.refused.ensures
 
 pub returns : goal.returns
-unfolding rounds_of
-returns c = simp (lt-leb _ _ c.if-n-le12.false)
+unfolding rounds_of xoodoo_rounds
+returns c = rw (le-leb _ _ c.if-n-gt12.false) (cc)

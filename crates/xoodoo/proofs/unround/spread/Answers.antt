@@ -5,4 +5,4 @@ use Rattle.xoodoo.proofs.unround.spread.Goals as goal
 
 pub returns : goal.returns
 unfolding spread
-returns c = c.xor4.ensures ∙ ap₂ ◌⊞◌ c.rotated4.ensures c.rotated4-2.ensures
+returns c = c.bitxor.ensures ∙ ap₂ ◌⊞◌ c.rotate_left.ensures c.rotate_left-2.ensures

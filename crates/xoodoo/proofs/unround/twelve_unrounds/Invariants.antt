@@ -1,14 +1,15 @@
--- The rounds from the i-th constant on are taken back, of the plain state.
+-- The pairs of constants that the iterator still has, taken back from the plain state now, are all six taken back from the first state.
 use mathlib.Core.Path.{◌≡◌}
-use Prim.Native.Nat.{◌≤◌, ◌%◌}
-use lib.ListN.{drop}
-use Rattle.xoodoo.specs.Xoodoo.{unrounds, constants}
+use Rattle.std.specs.Iterator.Adapters.{rev_source}
+use Rattle.std.specs.Slice.Iter.{iter_rest}
+use Rattle.xoodoo.specs.Xoodoo.{unrounds}
 use Rattle.xoodoo.specs.Frame.{not_one}
 use Rattle.xoodoo.proofs.Planes.{Good}
+use Rattle.xoodoo.proofs.Walk.{paired}
 use Rattle.xoodoo.proofs.unround.twelve_unrounds.Given as goal
 
-abbrev pub invariant-loop-i : goal.invariant-loop-i
-invariant-loop-i l = (l.i ≤ 12) × (l.i % 2 ≡ 0) × Good l.t × (not_one l.t ≡ unrounds (drop l.i constants) (not_one l.initial.t))
-
-abbrev pub decreases-loop-i : goal.decreases-loop-i
-decreases-loop-i l = l.i
+abbrev pub invariant-loop-a : goal.invariant-loop-a
+invariant-loop-a l = record {
+  good : Good l.t;
+  left : unrounds (paired (iter_rest (rev_source l.a-iterator))) (not_one l.t) ≡ unrounds (paired (iter_rest (rev_source l.initial.a-iterator))) (not_one l.initial.t);
+}

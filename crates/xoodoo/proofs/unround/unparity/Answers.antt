@@ -10,17 +10,17 @@ pub returns : goal.returns
 unfolding step ups
 returns c =
     let p = c.args.p in
-    let a = c.xor4-a.result in
-    let b = c.xor4-b.result in
-    let d = c.xor4-c.result in
-    let ea : a ≡ step 1 5 14 p = c.xor4-a.ensures ∙ ap (λ q. p ⊞ q) (c.up.ensures ∙ ap up c.spread.ensures) in
+    let a = c.bitxor-a.result in
+    let b = c.bitxor-b.result in
+    let d = c.bitxor-c.result in
+    let ea : a ≡ step 1 5 14 p = c.bitxor-a.ensures ∙ ap (λ q. p ⊞ q) (c.up.ensures ∙ ap up c.spread.ensures) in
     let eb : b ≡ step 2 10 28 a =
-    c.xor4-b.ensures
+    c.bitxor-b.ensures
     ∙ ap (λ q. a ⊞ q)
     (c.up-3.ensures ∙ ap up (c.up-2.ensures ∙ ap up c.spread-2.ensures)) in
-    let ed : d ≡ b ⊞ each (rotl 4) b = c.xor4-c.ensures ∙ ap (λ q. b ⊞ q) c.rotated4.ensures in
-    let ee : c.xor4-d.result ≡ d ⊞ each (rotl 8) d = c.xor4-d.ensures ∙ ap (λ q. d ⊞ q) c.rotated4-2.ensures in
-    c.xor4.ensures
-    ∙ ap₂ ◌⊞◌ (ee ∙ ap (λ q. q ⊞ each (rotl 8) q) ed) c.rotated4-3.ensures
+    let ed : d ≡ b ⊞ each (rotl 4) b = c.bitxor-c.ensures ∙ ap (λ q. b ⊞ q) c.rotate_left.ensures in
+    let ee : c.bitxor-d.result ≡ d ⊞ each (rotl 8) d = c.bitxor-d.ensures ∙ ap (λ q. d ⊞ q) c.rotate_left-2.ensures in
+    c.bitxor.ensures
+    ∙ ap₂ ◌⊞◌ (ee ∙ ap (λ q. q ⊞ each (rotl 8) q) ed) c.rotate_left-3.ensures
     ∙ ap five (eb ∙ ap (step 2 10 28) ea)
     ∙ sym (unparity-five (known-plane p _ c.well_formed.0))

@@ -1,32 +1,35 @@
--- The rounds from the i-th constant on are taken back.
+-- The constants that the iterator still has, taken back from the state now, are all n taken back from the first state.
 use mathlib.Core.Path.{◌≡◌, sym, ap, ◌∙◌}
-use Prim.Native.Nat.{◌-◌, ◌+◌}
+use mathlib.Core.List.{[]}
+use Prim.Native.Nat.{◌-◌}
 use native.Mathlib.Omega.{arith}
-use lib.ListN.{drop, get_or}
-use Rattle.xoodoo.specs.Xoodoo.{unround, unrounds, constants, last_of}
-use Rattle.xoodoo.proofs.Walk.{unrounds-next, unrounds-none}
+use lib.ListN.{drop, length-drop}
+use lib.Seq.{take_all}
+use Rattle.std.proofs.lemmas.List.{nil_from_length}
+use Rattle.std.specs.Iterator.Adapters.{rev_source}
+use Rattle.std.specs.Slice.Iter.{iter_rest}
+use Rattle.xoodoo.specs.Xoodoo.{unrounds, constants, last_of}
+use Rattle.xoodoo.proofs.Walk.{unrounds-push}
 use Rattle.xoodoo.proofs.unround.unrounds.Goals as goal
 
-pub loop-i-init : goal.loop-i-init
-unfolding constants
-loop-i-init c = (omega arith, omega arith, sym (unrounds-none constants _))
-
-pub loop-i-preserved : goal.loop-i-preserved
-unfolding constants
-loop-i-preserved c =
-    let o = c.loop-i in
-    let s = c.args.s in
-    let e : o.i - 1 + 1 ≡ o.i = omega arith in (
-      omega arith,
-      omega arith,
-      c.unround-t.ensures
-          ∙ ap (unround (get_or constants (o.i - 1) 0)) (o.invariant.2 ∙ ap (λ n. unrounds (drop n constants) s) (sym e))
-          ∙ sym (unrounds-next constants (o.i - 1) s (omega arith)),
-    )
+pub loop-key-preserved : goal.loop-key-preserved
+loop-key-preserved c =
+    let l = c.loop-key in
+    let rest = iter_rest (rev_source c.next.new.self) in
+    ap (unrounds rest) c.unround-t.ensures
+    ∙ sym (unrounds-push rest c.in-Some.key.now l.t)
+    ∙ ap (λ cs. unrounds cs l.t) (sym c.in-Some.ensures.steps)
+    ∙ l.invariant
 
 pub returns : goal.returns
-unfolding last_of
+unfolding last_of constants unrounds
 returns c =
-    let o = c.loop-i in
-    let e : o.i ≡ 12 - c.args.n = omega arith in
-    o.invariant.2 ∙ ap (λ n. unrounds (drop n constants) c.args.s) e
+    let l = c.loop-key in
+    let n = c.args.n in
+    let end : iter_rest (rev_source l.key-iterator) ≡ [] = nil_from_length _ c.in-None.ensures.steps.0 in
+    let all : iter_rest (rev_source c.into_iter-key-iterator.result) ≡ last_of n =
+    ap (λ s. iter_rest (rev_source s)) c.into_iter-key-iterator.ensures.into_iter_gives
+    ∙ ap iter_rest c.rev-key-items.ensures.source
+    ∙ c.iter.ensures.rest
+    ∙ take_all (12 - (12 - n)) (drop (12 - n) constants) (omega (arith, length-drop (12 - n) constants)) in
+    sym (ap (λ cs. unrounds cs l.t) end) ∙ l.invariant ∙ ap (λ cs. unrounds cs c.args.s) all

@@ -1,12 +1,9 @@
--- The rounds from the i-th constant on are taken back.
+-- The constants that the iterator still has, taken back from the state now, are all n taken back from the first state.
 use mathlib.Core.Path.{◌≡◌}
-use Prim.Native.Nat.{◌≤◌, ◌-◌}
-use lib.ListN.{drop}
-use Rattle.xoodoo.specs.Xoodoo.{unrounds, constants}
+use Rattle.std.specs.Iterator.Adapters.{rev_source}
+use Rattle.std.specs.Slice.Iter.{iter_rest}
+use Rattle.xoodoo.specs.Xoodoo.{unrounds}
 use Rattle.xoodoo.proofs.unround.unrounds.Given as goal
 
-abbrev pub invariant-loop-i : goal.invariant-loop-i
-invariant-loop-i l = (12 - l.n ≤ l.i) × (l.i ≤ 12) × (l.t ≡ unrounds (drop l.i constants) l.initial.t)
-
-abbrev pub decreases-loop-i : goal.decreases-loop-i
-decreases-loop-i l = l.i
+abbrev pub invariant-loop-key : goal.invariant-loop-key
+invariant-loop-key l = unrounds (iter_rest (rev_source l.key-iterator)) l.t ≡ unrounds (iter_rest (rev_source l.initial.key-iterator)) l.initial.t

@@ -1,7 +1,6 @@
--- One byte of one word gains it.
+-- The highest byte of the last word gains it.
 use mathlib.Core.Path.{ap}
-use mathlib.Core.List.{List, ◌++◌}
-use Prim.Native.Nat.{ℕ}
+use mathlib.Core.List.{◌++◌}
 use borrow.Author.Rules.{rules}
 use Rattle.laws.specs.Words.{◌⊕◌}
 use Rattle.xoodoo.specs.Xoodoo.{word_bytes, plane_bytes, to_bytes}
@@ -12,4 +11,5 @@ pub returns : goal.returns
 unfolding to_bytes plane_bytes word_bytes ◌⊕◌
 returns c =
     let s = c.args.s in
-    ap (λ (l : List ℕ). (word_bytes s.p0.x0 ++ word_bytes s.p0.x1 ++ word_bytes s.p0.x2 ++ word_bytes s.p0.x3 ++ word_bytes s.p1.x0 ++ word_bytes s.p1.x1 ++ word_bytes s.p1.x2 ++ word_bytes s.p1.x3 ++ word_bytes s.p2.x0 ++ word_bytes s.p2.x1 ++ word_bytes s.p2.x2) ++ l) (high_byte s.p2.x3 c.args.cu (search rules))
+    let before = plane_bytes s.p0 ++ plane_bytes s.p1 ++ word_bytes s.p2.x0 ++ word_bytes s.p2.x1 ++ word_bytes s.p2.x2 in
+    ap (λ l. before ++ l) (high_byte s.p2.x3 c.args.cu (search rules))

@@ -1,8 +1,0 @@
--- Each word is the one below, modulo 4.
-use mathlib.Core.Path.{refl}
-use Rattle.xoodoo.specs.Xoodoo.{up}
-use Rattle.xoodoo.proofs.round.up.Goals as goal
-
-pub returns : goal.returns
-unfolding up
-returns c = refl
