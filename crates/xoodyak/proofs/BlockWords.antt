@@ -1,9 +1,12 @@
 -- A full block met as words, by its bytes; and Up and Down with the colour 00, which is no colour.
 use mathlib.Core.Path.{◌≡◌, refl, sym, ap, ap₂, ◌∙◌}
-use mathlib.Core.List.{List, [], ◌∷◌}
-use Prim.Native.Nat.{ℕ, zero, suc, ◌≤◌}
+use mathlib.Core.List.{List, [], ◌∷◌, append_assoc}
+use Prim.Native.Nat.{ℕ, zero, suc, ◌+◌, ◌-◌, ◌≤◌}
+use native.Mathlib.Omega.{arith}
 use native.Mathlib.Nat.{le_of_suc-le-suc, not-suc-le-zero}
 use lib.ListN.{length, take, replicate}
+use lib.Seq.{sets, sets-eq}
+use borrow.Rule.Slice.PartMut.{put_mid, Post-is}
 use Rattle.laws.specs.Words.{◌⊕◌, ◌⊙◌}
 use Rattle.laws.specs.Lists.{add_front, add_at}
 use Rattle.laws.proofs.Words.{⊕-comm, ⊕-zero}
@@ -17,6 +20,10 @@ use Rattle.xoodyak.specs.declared.cyclist.Phase.TheVariants.{Up, Down}
 use Rattle.xoodyak.specs.declared.cyclist.Duplex.{Duplex}
 use Rattle.xoodyak.specs.Cyclist.{up, up_bytes, up_colour, down, down_bytes, down_colour, next}
 
+-- ---- a run that is copied over another is stored byte by byte
+pub put-sets : (b vs : List ℕ) (i e : ℕ) → e ≡ i + length vs → e ≤ length b → put_mid i (e - i) b vs ≡ sets b i vs
+put-sets b vs i e q h = rw (Post-is i e b (omega arith), sets-eq vs b i (omega arith), append_assoc, q) refl
+
 -- ---- what is added
 -- the sum's front, whichever is added to the other
 take-add_front : (s x : List ℕ) → length x ≤ length s → take (length x) (add_front s x) ≡ add_front x s
@@ -26,16 +33,13 @@ take-add_front (a ∷ s) (b ∷ x) h = ap₂ ◌∷◌ (⊕-comm a b) (take-add_
 
 -- a block m of k bytes met in words: v is s, the state after Up, u gains the block's words x, and f is the front of u
 module _ {m x s v u : List ℕ} {k : ℕ} (l : length m ≡ k) (ex : x ≡ m) (ev : v ≡ s) (eu : u ≡ add_front v x) where
-  pub encrypted-end : {r : List ℕ} → r ≡ add_at u k 1 → r ≡ add_at (add_front s m) (length m) 1
-  encrypted-end er = rw (er, eu, ex, ev, l)
-
   module _ {f : List ℕ} (n : length v ≡ 48) (h : k ≤ 48) (ef : f ≡ take k u) where
     pub met-out : {y : List ℕ} → y ≡ f → y ≡ add_front m s
     met-out ey = rw (ey, ef, eu, ex, ev, ← l) (take-add_front s m (rw (l, ← ev, n) h))
 
     -- what is met is the plaintext, and goes into Down
-    pub decrypted-end : {w r : List ℕ} → w ≡ add_front v f → r ≡ add_at w k 1 → r ≡ add_at (add_front s (add_front m s)) (length m) 1
-    decrypted-end ew er = rw (er, ew, met-out refl, ev, l)
+    pub decrypted-end : {w r : List ℕ} → w ≡ add_front v f → r ≡ add_at w k 1 → r ≡ add_at (add_front s (add_front m s)) k 1
+    decrypted-end ew er = rw (er, ew, met-out refl, ev)
 
 add_at-zero : (s : List ℕ) (i : ℕ) → add_at s i 0 ≡ s
 add_at-zero [] i = refl

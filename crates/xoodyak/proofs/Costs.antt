@@ -1,13 +1,17 @@
 -- Each closed formula is the number of Up steps that the definition makes.
+use denote.Ref.{Bor}
 use mathlib.Core.Path.{◌≡◌, refl, sym, ap, ap₂, ◌∙◌}
 use mathlib.Core.Bool.{Bool, true, false}
 use mathlib.Core.List.{List, [], ◌∷◌, ◌++◌, append-nil}
-use Prim.Native.Nat.{ℕ, zero, suc, ◌+◌, ◌-◌, ◌/◌, ◌^◌, ◌<◌, ◌≤◌, max}
-use native.Mathlib.Nat.{not-suc-le-zero, le_refl, div-le_self}
+use Prim.Native.Nat.{ℕ, zero, suc, ◌+◌, ◌-◌, ◌*◌, ◌/◌, ◌%◌, ◌^◌, ◌<◌, ◌≤◌, min, max}
+use native.Mathlib.Nat.{not-suc-le-zero, div-le_self, div-eq_of_lt, div-eq_of_lt-le, mod-eq-sub-mul-div, mod-lt}
+use Rattle.std.proofs.lemmas.Nat.{div-add-mod'}
 use native.Mathlib.Omega.{arith}
 use lib.Dec.{lit<, lit≤}
 use lib.ListN.{length, take, length-append}
 use lib.Seq.{length-take-le}
+use Rattle.std.specs.Prelude.{Option, None, Some}
+use Rattle.std.specs.Bool.{then_some}
 use Rattle.laws.specs.Blocks.{cuts, blocks, sizes, block_count}
 use Rattle.laws.proofs.Blocks.{blocks_step, count-step, cuts-count, blocks-count, sizes-count, sizes-zero}
 use Rattle.xoodoo.proofs.Inverse.{xoodoo-length}
@@ -19,9 +23,9 @@ use Rattle.xoodyak.specs.declared.cyclist.Duplex.{Duplex}
 use Rattle.xoodyak.specs.declared.Rule.{Rule}
 use Rattle.xoodyak.specs.declared.Rule.TheVariants.{Crate, Specification}
 use Rattle.xoodyak.specs.declared.Session.{Session}
-use Rattle.xoodyak.specs.Cyclist.{squeeze_rate, up_colour, up_bytes, up, down, ready, absorb_blocks, absorb, nexts_end, nexts_out, squeeze_more_end, squeeze_more_out, squeeze_end, squeeze_out, message_blocks, chosen, if_given}
+use Rattle.xoodyak.specs.Cyclist.{squeeze_rate, up_colour, up_bytes, up, down, ready, absorb_blocks, absorb, nexts_end, nexts_out, squeeze_more_end, squeeze_more_out, squeeze_end, squeeze_out, message_blocks, chosen, if_given, bytes_in, absorb_given, key_call}
 use Rattle.xoodyak.specs.Ups.{ready_ups, absorb_blocks_ups, absorb_ups, more_blocks_ups, absorb_more_ups, nexts_ups, squeeze_more_ups, squeeze_ups, enc_ups, dec_ups, ratchet_ups, if_given_ups, key_call_ups}
-use Rattle.xoodyak.specs.Shares.{less_up, absorb_share, squeeze_share, message_share, seal_share, chosen_length, key_share}
+use Rattle.xoodyak.specs.Shares.{less_up, absorb_share, squeeze_share, message_share, seal_share, chosen_length, key_share, given_share}
 use Rattle.xoodyak.specs.Calls.{encrypt_end, decrypt_end, encrypt_ups, decrypt_ups, tag_ups, seal_ups, open_ups}
 use Rattle.xoodyak.proofs.Turns.{rate-pos}
 
@@ -84,15 +88,16 @@ pub squeeze-share : (d : Duplex) (n cu : ℕ) → squeeze_ups d n cu ≡ squeeze
 unfolding squeeze_ups squeeze_share up
 squeeze-share d n cu = ap suc (squeeze-more-share (up d cu) (n - squeeze_rate d.mode)) ∙ one_more (squeeze_rate d.mode) n (rate-pos d.mode)
 
--- what the code computes of a length that is not 0
-pub count-is : (r n : ℕ) → 0 < n → (n - 1) / r + 1 ≡ block_count r n
-unfolding block_count
-count-is r zero h = absurd (not-suc-le-zero h)
-count-is r (suc n) h = let z : suc n - 1 ≡ n = omega arith in rw z (omega arith)
+-- the library's quotient, rounded up: q whole blocks and e bytes more
+ceil-by : (r n q e : ℕ) → q * r + e ≡ suc n → e < r → q + min 1 e ≡ suc (n / r)
+ceil-by r n zero zero h l = absurd (omega arith)
+ceil-by r n (suc q) zero h l = let k : n / r ≡ q = div-eq_of_lt-le r (omega arith) (omega arith) in omega (arith, k)
+ceil-by r n q (suc e) h l = let k : n / r ≡ q = div-eq_of_lt-le r (omega arith) (omega arith) in omega (arith, k)
 
-pub count_none : (r n : ℕ) → n ≡ 0 → 0 ≡ block_count r n
+pub ceil-is : (r n : ℕ) → 0 < r → n / r + min 1 (n % r) ≡ block_count r n
 unfolding block_count
-count_none r n e = rw e
+ceil-is r zero p = omega (arith, div-eq_of_lt p, mod-eq-sub-mul-div 0 r)
+ceil-is r (suc n) p = ceil-by r n (suc n / r) (suc n % r) (div-add-mod' (suc n) r) (mod-lt (suc n) p)
 
 -- no count of them wraps
 count-le : (r n : ℕ) → block_count r n ≤ n
@@ -105,13 +110,9 @@ unfolding absorb_share
 share-le Up r n = let h = count-le r n in omega arith
 share-le Down r n = let h = count-le r n in omega arith
 
-pub given-le : (has : Bool) (n : ℕ) → if_given_ups has n ≤ n
-given-le true n = le_refl n
-given-le false n = omega arith
-
-pub chosen-le : (has : Bool) (id nonce : ℕ) → chosen_length has id nonce ≤ id + nonce
-chosen-le true id nonce = omega arith
-chosen-le false id nonce = omega arith
+pub given-le : (r : ℕ) (x : Option (Bor (List ℕ))) → given_share r x ≤ max 1 (length (bytes_in x))
+given-le r None = omega arith
+given-le r (Some x) = share-le Down r (length x.now)
 
 count_fits : (n : ℕ) → n < 2 ^ 64 → max 1 (block_count 24 n) + 1 < 2 ^ 64
 unfolding block_count
@@ -219,16 +220,37 @@ module _ (d : Duplex) (key : List ℕ) (has_id : Bool) (id nonce : List ℕ) (ha
       (ap₂ ◌+◌ (ap (if_given_ups has_id) (absorb-share 44 0 a nonce (lit< tt) ∙ ap (λ (p : Phase). absorb_share p 44 (length nonce)) ad))
       (ap (if_given_ups has_counter) (absorb-share 1 0 b counter (lit< tt) ∙ ap (λ (p : Phase). absorb_share p 1 (length counter)) bd)))
 
+-- the flags and slices of a key call, as its parts hold them: t, and the nonce and counter where they are absorbed
+module _ (key : List ℕ) (has_id : Bool) (id nonce : Bor (List ℕ)) (has_counter : Bool) (counter : Bor (List ℕ))
+    {t : List ℕ} {beside count : Option (Bor (List ℕ))} (et : t ≡ chosen has_id id.now nonce.now) (eb : beside ≡ then_some has_id nonce) (ec : count ≡ then_some has_counter counter)
+  where
+    pub call-parts : (d r : Duplex) → r ≡ absorb_given 1 (absorb_given 44 (absorb 44 2 d (key ++ (t ++ (length t ∷ [])))) beside) count
+        → r ≡ key_call d key has_id id.now nonce.now has_counter counter.now
+    unfolding key_call
+    call-parts d r e = e ∙ rw (et, eb, ec) (by-case has_id has_counter) where
+      by-case : (p q : Bool) → absorb_given 1 (absorb_given 44 (absorb 44 2 d (key ++ (chosen p id.now nonce.now ++ (length (chosen p id.now nonce.now) ∷ [])))) (then_some p nonce)) (then_some q counter)
+          ≡ key_call d key p id.now nonce.now q counter.now
+      by-case true true = refl
+      by-case true false = refl
+      by-case false true = refl
+      by-case false false = refl
+
+    pub share-parts : (d : Duplex) (n : ℕ) → n ≡ absorb_share d.phase 44 (length key + (length t + 1)) + (given_share 44 beside + given_share 1 count)
+        → n ≡ key_call_ups d key has_id id.now nonce.now has_counter counter.now
+    unfolding key_share
+    share-parts d n e = e ∙ rw (et, eb, ec) (by-case has_id has_counter) ∙ sym (key-share d key has_id id.now nonce.now has_counter counter.now) where
+      by-case : (p q : Bool) → absorb_share d.phase 44 (length key + (length (chosen p id.now nonce.now) + 1)) + (given_share 44 (then_some p nonce) + given_share 1 (then_some q counter))
+          ≡ key_share d.phase (length key) p (length id.now) (length nonce.now) q (length counter.now)
+      by-case true true = refl
+      by-case true false = refl
+      by-case false true = refl
+      by-case false false = refl
+
+pub parts-fit : (key : List ℕ) (has_id : Bool) (id nonce : Bor (List ℕ)) {t : List ℕ} {beside : Option (Bor (List ℕ))} → t ≡ chosen has_id id.now nonce.now → beside ≡ then_some has_id nonce
+    → length key + 1 + length id.now + length nonce.now ≤ 44 → length key + 1 + length t + length (bytes_in beside) ≤ 44
+parts-fit key true id nonce et eb h = rw (et, eb) h
+parts-fit key false id nonce et eb h = rw (et, eb) (omega (arith, h))
+
 -- ---- a call's share, which the code made from a length n
-module _ (s : Session) (x : List ℕ) (u n : ℕ) (l : n ≡ length x) where
-  pub encrypt-cost : u ≡ message_share s.rule n → u ≡ encrypt_ups s x
-  encrypt-cost e = e ∙ ap (message_share s.rule) l ∙ sym (encrypt-share s x)
-
-  pub decrypt-cost : u ≡ message_share s.rule n → u ≡ decrypt_ups s x
-  decrypt-cost e = e ∙ ap (message_share s.rule) l ∙ sym (decrypt-share s x)
-
-  pub seal-cost : u ≡ seal_share s.rule n → u ≡ seal_ups s x
-  seal-cost e = e ∙ ap (seal_share s.rule) l ∙ sym (seal-share s x)
-
-  pub open-cost : u ≡ seal_share s.rule n → u ≡ open_ups s x
-  open-cost e = e ∙ ap (seal_share s.rule) l ∙ sym (open-share s x)
+pub seal-cost : (s : Session) (x : List ℕ) (u n : ℕ) → n ≡ length x → u ≡ seal_share s.rule n → u ≡ seal_ups s x
+seal-cost s x u n l e = e ∙ ap (seal_share s.rule) l ∙ sym (seal-share s x)

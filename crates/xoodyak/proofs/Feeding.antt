@@ -17,6 +17,9 @@ use Rattle.xoodyak.specs.declared.Rule.TheVariants.{Crate, Specification}
 use Rattle.xoodyak.specs.declared.feed.Kind.{Kind}
 use Rattle.xoodyak.specs.Cyclist.{up}
 use Rattle.xoodyak.specs.declared.Session.{Session}
+use Rattle.xoodyak.specs.declared.numbers.Refusal.{Refusal}
+use Rattle.xoodyak.specs.Refusals.{number_of, missing_of}
+use Rattle.xoodyak.proofs.Settle.{number-pos}
 use Rattle.xoodyak.specs.Calls.{no_tag, both}
 use Rattle.xoodyak.specs.Feed.{is_open, close_block, open_block, put, wrote, run_end, run_out, Progress, stands, ups_before, place_in, block_for, feed, end_block, end_ups, Portion, portioned}
 
@@ -161,18 +164,17 @@ feed-done kind a p spent i d x o o₀ f g h s e =
     let w : record { duplex = d; place = p; spent = spent; bytes = take i o } ≡ f = rw (g, append-nil, add-zero) at e in
     rw (← w) ((refl, (refl, (sym l, refl))), rw (l, ← s) (sym (take-append-drop i o)))
 
--- ---- a call's test of its number m, which is n; k counts the bytes missing
+-- ---- a call that asked a check, which refused it with r or let it through
 abbrev denied : ℕ → ℕ → Session → List ℕ → Portion
 denied n k s o = record { session = s; number = n; missing = k; tag = no_tag; bytes = o; taken = 0; spent = 0 }
 
-other-denied : (n k : ℕ) (s : Session) (o : List ℕ) (x : Portion) → (n ≡ 0 → ⊥) → denied n k s o ≡ portioned n k s o x
-other-denied zero k s o x h = absurd (h refl)
-other-denied (suc n) k s o x h = refl
+other-denied : (m n k : ℕ) (s : Session) (o : List ℕ) (x : Portion) → (m ≡ 0 → ⊥) → m ≡ n → portioned n k s o x ≡ denied m k s o
+other-denied m zero k s o x h e = absurd (h e)
+other-denied m (suc n) k s o x h e = rw e
 
-module _ (n m : ℕ) (e : m ≡ n) (k : ℕ) (s : Session) (o : List ℕ) (x : Portion) where
-  pub portion-taken : m ≡ 0 → x ≡ portioned n k s o x
-  portion-taken z = ap (λ (j : ℕ). portioned j k s o x) (sym z ∙ e)
+pub portion-denied : (r : Refusal) (n k : ℕ) → (number_of r ≡ n) × (missing_of r ≡ k) → (s : Session) (o : List ℕ) (x : Portion)
+    → portioned n k s o x ≡ denied (number_of r) (missing_of r) s o
+portion-denied r n k e s o x = rw e.1 (other-denied (number_of r) n k s o x (number-pos r) e.0)
 
-  pub portion-denied : (l : ℕ) → l ≡ k → (m ≡ 0 → ⊥) → denied m l s o ≡ portioned n k s o x
-  portion-denied l el h =
-      ap (λ (j : ℕ). denied m j s o) el ∙ other-denied m k s o x h ∙ ap (λ (j : ℕ). portioned j k s o x) e
+pub portion-taken : (n : ℕ) → 0 ≡ n → (k : ℕ) (s : Session) (o : List ℕ) (x : Portion) → portioned n k s o x ≡ x
+portion-taken n z k s o x = ap (λ (j : ℕ). portioned j k s o x) (sym z)

@@ -4,6 +4,7 @@ pub mod Turns
 pub mod Message
 pub mod Same
 pub mod Settle
+pub mod Told
 pub mod Feeding
 pub mod Runs
 pub mod Sealing

@@ -1,117 +1,68 @@
--- Sealing and opening as the calls run them: what was copied, encrypted, squeezed and compared makes up the outcome.
-use mathlib.Core.Path.{◌≡◌, sym, ap, ◌∙◌}
+-- Opening as the code runs it: what was decrypted, squeezed and compared makes up the outcome, and parts of it are joined.
+use mathlib.Core.Path.{◌≡◌, refl, ap, ◌∙◌}
 use mathlib.Core.Bool.{Bool, true, false}
-use mathlib.Core.List.{List, ◌++◌, append-nil}
+use mathlib.Core.List.{List, ◌++◌}
 use Prim.Native.Nat.{ℕ, ◌+◌, ◌-◌, ◌≤◌}
 use native.Mathlib.Omega.{arith}
-use lib.ListN.{length, replicate, take, drop, length-append, length-drop, drop_of_length-le}
-use lib.Seq.{length-take-le, take_all, take_at, drop_at}
-use borrow.Rule.Slice.PartMut.{put_mid}
-use Rattle.laws.proofs.Lists.{put-front-tail, front-mid}
+use native.Mathlib.Nat.{suc-ne-zero, le_refl}
+use lib.ListN.{length, replicate, take, drop, length-drop}
+use lib.Seq.{length-take-le, take_all}
+use Rattle.std.proofs.lemmas.List.{replicate-append-replicate}
 use Rattle.xoodyak.specs.declared.Session.{Session}
-use Rattle.xoodyak.specs.declared.tag.Tag.{Tag}
-use Rattle.xoodyak.specs.Numbers.{first, keyed_number, room_number, missing, tail_number}
-use Rattle.xoodyak.specs.Calls.{Outcome, no_tag, taken, refused, encrypt_end, encrypt_out, decrypt_end, decrypt_out, tag_end, tag_out, seal_ups, open_ups, same_bytes, seal_detached_of, seal_of, seal_in_place_detached_of, seal_in_place_of, verdict, opened, open_detached_of, open_of, open_in_place_detached_of, open_in_place_of}
-use Rattle.xoodyak.proofs.Settle.{settle-taken, room-refused, first-zero, first-other, room_fits, tail-fits, copied-front, copied-rest}
+use Rattle.xoodyak.specs.Cyclist.{squeeze_end, squeeze_out}
+use Rattle.xoodyak.specs.Shares.{seal_share}
+use Rattle.xoodyak.specs.Calls.{answer_of, onward, decrypt_end, decrypt_out, tag_end, tag_out, same_bytes, verdict, opened}
+use Rattle.xoodyak.proofs.Costs.{open-share}
 
--- ---- what the number k of a call that was not refused tells of its lengths
-module _ (s : Session) (k : ℕ) (z : k ≡ 0) where
-  pub fits : (room result : ℕ) → k ≡ first (keyed_number s) (room_number room result) → result ≤ room
-  fits room result e = room_fits room result (first-zero (keyed_number s) (room_number room result) (sym e ∙ z)).1
+-- x was decrypted to a, t squeezed and compared with u
+pub opened-is : (s a b : Session) (x t u : List ℕ) → a ≡ decrypt_end s x → b ≡ onward a (squeeze_end a.duplex 16 0x40) → t ≡ squeeze_out a.duplex 16 0x40
+    → (v : Bool) → same_bytes t u ≡ v → (good bad : List ℕ) → verdict v b good bad (seal_share s.rule (length x)) ≡ opened s u x good bad
+unfolding opened tag_end tag_out
+opened-is s a b x t u ea eb et v ev good bad = rw (← ev, et, eb, ea, open-share s x)
 
-  pub long : (size : ℕ) → k ≡ first (keyed_number s) (tail_number size) → 16 ≤ size
-  long size e = tail-fits size (first-zero (keyed_number s) (tail_number size) (sym e ∙ z)).1
+-- the answer is the same whatever is written
+answer-alike : (v : Bool) (b : Session) (g h i j : List ℕ) (n : ℕ) → answer_of (verdict v b g h n) ≡ answer_of (verdict v b i j n)
+answer-alike true b g h i j n = refl
+answer-alike false b g h i j n = refl
 
--- the first of two, a and b, which a call tests in two steps; its first number j is a
-module _ (j a b : ℕ) (ej : j ≡ a) where
-  pub earlier : (j ≡ 0 → ⊥) → j ≡ first a b
-  earlier h = sym (first-other j b h) ∙ rw ej
+bytes-then : (v : Bool) (b : Session) (g h y : List ℕ) (n : ℕ) → (verdict v b g h n).bytes ++ y ≡ (verdict v b (g ++ y) (h ++ y) n).bytes
+bytes-then true b g h y n = refl
+bytes-then false b g h y n = refl
 
-  pub later : (k : ℕ) → j ≡ 0 → k ≡ b → k ≡ first a b
-  later k z ek = rw (← ej, z, ek)
+good-then : (v : Bool) (b : Session) (g h y j : List ℕ) (n : ℕ) → (verdict v b g h n).number ≡ 0 → (verdict v b g h n).bytes ++ y ≡ (verdict v b (g ++ y) j n).bytes
+good-then true b g h y j n e = refl
+good-then false b g h y j n e = absurd (suc-ne-zero _ e)
 
-pub open-refused : (s : Session) (o i : List ℕ) (k m : ℕ) → k ≡ first (first (keyed_number s) (tail_number (length i))) (room_number (length o) (length i - 16)) → m ≡ missing k (length o) (length i - 16) → (k ≡ 0 → ⊥)
-    → refused s k m o ≡ open_of s o i
-unfolding open_of
-open-refused s o i k m ek em h = room-refused _ k m _ _ ek em s o _ h
+bad-then : (v : Bool) (b : Session) (g h z i j : List ℕ) (n : ℕ) → ((verdict v b g h n).number ≡ 0 → ⊥) → h ++ z ≡ j → (verdict v b g h n).bytes ++ z ≡ (verdict v b i j n).bytes
+bad-then true b g h z i j n k e = absurd (k refl)
+bad-then false b g h z i j n k e = e
 
--- ---- parts that were lent
--- a front that was lent leaves the length as it was
-pub relaid : (n : ℕ) (f w o : List ℕ) → n ≤ length o → length f ≡ length (take n w) → length w ≡ length o → length (f ++ drop n w) ≡ length o
-relaid n f w o h lf lw =
-    let l : length (take n w) ≡ n = length-take-le n w (omega arith) in
-    simp (length-append, length-drop) (omega arith)
-
--- the front f that was lent, lent once more and zeroed
-pub zeroed : (n : ℕ) (f o y : List ℕ) → length f ≡ n → y ≡ replicate (length (take n (f ++ drop n o))) 0 → y ++ drop n (f ++ drop n o) ≡ replicate n 0 ++ drop n o
-zeroed n f o y l e = rw (e, take_at f (drop n o) n l, drop_at f (drop n o) n l, l)
-
--- a whole buffer x that was lent and zeroed
-pub zeroed-whole : (n : ℕ) (x y : List ℕ) → length x ≡ n → y ≡ replicate (length (take n x)) 0 → y ++ drop n x ≡ replicate n 0
-zeroed-whole n x y l e =
-    let h : length x ≤ n = omega arith in
-    rw (e, take_all, drop_of_length-le x h, append-nil, l)
-
--- ---- sealing: x was encrypted to f and t squeezed; k was the number
-module _ (s a b : Session) (x f t : List ℕ) (ea : a ≡ encrypt_end s x) (ef : f ≡ encrypt_out s x) (eb : b ≡ tag_end a) (et : t ≡ tag_out a) (k : ℕ) (z : k ≡ 0) where
-  pub seal-detached : (o m w : List ℕ) → k ≡ first (keyed_number s) (room_number (length o) (length m)) → w ≡ m ++ drop (length m) o → x ≡ take (length m) w
-      → taken b t (f ++ drop (length m) w) (seal_ups s x) ≡ seal_detached_of s o m
-  unfolding seal_detached_of
-  seal-detached o m w ek ew ex = rw (eb, et, ef, ea, ex, copied-front m o w ew, copied-rest m o w ew) (sym (settle-taken _ k ek _ s o _ z))
-
-  pub seal-copy : (o m w : List ℕ) → k ≡ first (keyed_number s) (room_number (length o) (length m + 16)) → w ≡ m ++ drop (length m) o → x ≡ take (length m) w → length f ≡ length m
-      → taken b no_tag (put_mid (length m) (length m + 16 - length m) (f ++ drop (length m) w) t) (seal_ups s x) ≡ seal_of s o m
-  unfolding seal_of
-  seal-copy o m w ek ew ex lf =
-      rw (front-mid (length m) (length m + 16) f w o t lf (omega arith) (copied-rest m o w ew), eb, et, ef, ea, ex, copied-front m o w ew)
-      (sym (settle-taken _ k ek _ s o _ z))
-
-  pub seal-in-place-detached : k ≡ keyed_number s → taken b t f (seal_ups s x) ≡ seal_in_place_detached_of s x
-  unfolding seal_in_place_detached_of
-  seal-in-place-detached ek = rw (eb, et, ef, ea) (sym (settle-taken _ k ek _ s x _ z))
-
-  pub seal-in-place : (o : List ℕ) → k ≡ first (keyed_number s) (tail_number (length o)) → x ≡ take (length o - 16) o → length f ≡ length o - 16
-      → taken b no_tag (put_mid (length o - 16) (length (f ++ drop (length o - 16) o) - (length o - 16)) (f ++ drop (length o - 16) o) t) (seal_ups s x) ≡ seal_in_place_of s o
-  unfolding seal_in_place_of
-  seal-in-place o ek ex lf = rw (put-front-tail (length o - 16) f o t lf, eb, et, ef, ea, ex) (sym (settle-taken _ k ek _ s o _ z))
-
--- ---- the comparison decided
-module _ (v : Bool) (s : Session) (good bad : List ℕ) (u : ℕ) (y : Outcome) where
-  pub same : v ≡ true → verdict v s good bad u ≡ y → taken s no_tag good u ≡ y
-  same e h = sym (ap (λ (w : Bool). verdict w s good bad u) e) ∙ h
-
-  pub differs : v ≡ false → verdict v s good bad u ≡ y → verdict false s good bad u ≡ y
-  differs e h = sym (ap (λ (w : Bool). verdict w s good bad u) e) ∙ h
-
--- ---- opening: x was decrypted to f, t squeezed and compared with u
-module _ (s a b : Session) (x f t u : List ℕ) (v : Bool) (ea : a ≡ decrypt_end s x) (ef : f ≡ decrypt_out s x) (eb : b ≡ tag_end a) (et : t ≡ tag_out a) (ev : v ≡ same_bytes t u) (k : ℕ) (z : k ≡ 0) where
-  opened-is : (good bad : List ℕ) → verdict v b good bad (open_ups s x) ≡ opened s u x good bad
+module _ (s : Session) (u x : List ℕ) where
+  pub opened-alike : (g h i j : List ℕ) → answer_of (opened s u x g h) ≡ answer_of (opened s u x i j)
   unfolding opened
-  opened-is good bad = rw (ev, eb, et, ea)
+  opened-alike g h i j = answer-alike _ _ g h i j _
 
-  pub open-detached : (o m w : List ℕ) (tag : Tag) → k ≡ first (keyed_number s) (room_number (length o) (length m)) → w ≡ m ++ drop (length m) o → x ≡ take (length m) w → u ≡ tag.bytes
-      → verdict v b (f ++ drop (length m) w) (replicate (length o) 0) (open_ups s x) ≡ open_detached_of s o tag m
-  unfolding open_detached_of
-  open-detached o m w tag ek ew ex eu =
-      opened-is _ _ ∙ rw (ef, ex, copied-front m o w ew, copied-rest m o w ew, eu) (sym (settle-taken _ k ek _ s o _ z))
+  -- a part y of the buffer that was not lent
+  pub opened-then : (g h y : List ℕ) → (opened s u x g h).bytes ++ y ≡ (opened s u x (g ++ y) (h ++ y)).bytes
+  unfolding opened
+  opened-then g h y = bytes-then _ _ g h y _
 
-  pub open-copy : (o i w : List ℕ) → 16 ≤ length i → k ≡ first (first (keyed_number s) (tail_number (length i))) (room_number (length o) (length i - 16))
-      → w ≡ take (length i - 16) i ++ drop (length (take (length i - 16) i)) o → x ≡ take (length i - 16) w → u ≡ drop (length i - 16) i
-      → verdict v b (f ++ drop (length i - 16) w) (replicate (length o) 0) (open_ups s x) ≡ open_of s o i
-  unfolding open_of
-  open-copy o i w h ek ew ex eu =
-      let n = length i - 16 in
-      let m = take n i in
-      let l : length m ≡ n = length-take-le n i (omega arith) in
-      let e : w ≡ m ++ drop n o = ew ∙ ap (λ (j : ℕ). m ++ drop j o) l in
-      opened-is _ _ ∙ rw (ef, ex, e, take_at m (drop n o) n l, drop_at m (drop n o) n l, eu) (sym (settle-taken _ k ek _ s o _ z))
+  -- the front of an output o was lent: what lies past it stays, or is zeroed where the tag differs
+  pub opened-front : (g h y j : List ℕ) → (opened s u x g h).number ≡ 0 → (opened s u x g h).bytes ++ y ≡ (opened s u x (g ++ y) j).bytes
+  unfolding opened
+  opened-front g h y j e = good-then _ _ g h y j _ e
 
-  pub open-in-place-detached : (tag : Tag) → k ≡ keyed_number s → u ≡ tag.bytes
-      → verdict v b f (replicate (length x) 0) (open_ups s x) ≡ open_in_place_detached_of s x tag
-  unfolding open_in_place_detached_of
-  open-in-place-detached tag ek eu = opened-is _ _ ∙ rw (ef, eu) (sym (settle-taken _ k ek _ s x _ z))
+  pub opened-zeroed : (g y i o : List ℕ) → length x ≤ length o → y ≡ drop (length x) o → ((opened s u x g (replicate (length x) 0)).number ≡ 0 → ⊥)
+      → (opened s u x g (replicate (length x) 0)).bytes ++ replicate (length y) 0 ≡ (opened s u x i (replicate (length o) 0)).bytes
+  unfolding opened
+  opened-zeroed g y i o l e k =
+      let n : length x + length y ≡ length o = rw (e, length-drop) (omega arith) in
+      bad-then _ _ g _ _ i _ _ k (replicate-append-replicate (length x) (length y) 0 ∙ ap (λ (m : ℕ). replicate m 0) n)
 
-  pub open-in-place : (o : List ℕ) → k ≡ first (keyed_number s) (tail_number (length o)) → x ≡ take (length o - 16) o → u ≡ drop (length o - 16) o
-      → verdict v b (f ++ drop (length o - 16) o) (replicate (length o - 16) 0 ++ drop (length o - 16) o) (open_ups s x) ≡ open_in_place_of s o
-  unfolding open_in_place_of
-  open-in-place o ek ex eu = opened-is _ _ ∙ rw (ef, eu, ex) (sym (settle-taken _ k ek _ s o _ z))
+-- all but the last 16 bytes of the input i, and those
+pub open-parts : (s : Session) (o i : List ℕ) → 16 ≤ length i → (bad : List ℕ)
+    → opened s (take (length i - (length i - 16)) (drop (length i - 16) i)) (take (length i - 16) i) (decrypt_out s (take (length i - 16) i) ++ drop (length (take (length i - 16) i)) o) bad
+    ≡ opened s (drop (length i - 16) i) (take (length i - 16) i) (decrypt_out s (take (length i - 16) i) ++ drop (length i - 16) o) bad
+open-parts s o i l bad =
+    let n = length i - 16 in
+    rw (take_all (length i - n) (drop n i) (rw length-drop (le_refl _)), length-take-le n i (omega arith))

@@ -5,7 +5,8 @@ use Rattle.xoodyak.specs.declared.cyclist.Mode.TheVariants.{Hash, Keyed}
 use Rattle.xoodyak.specs.declared.cyclist.Duplex.{Duplex}
 use Rattle.xoodyak.specs.declared.tag.Tag.{Tag}
 use Rattle.xoodyak.specs.declared.Rule.{Rule}
-use Rattle.xoodyak.specs.declared.feed.Kind.TheVariants.{Seal}
+use Rattle.xoodyak.specs.declared.feed.Kind.{Kind}
+use Rattle.xoodyak.specs.declared.feed.Kind.TheVariants.{Seal, Open}
 use Rattle.xoodyak.specs.declared.feed.Message.{Message}
 use Rattle.xoodyak.specs.declared.Session.{Session}
 use Rattle.xoodyak.specs.declared.Answer.{Answer}
@@ -132,6 +133,23 @@ encrypt_in_place_of s b = settle (keyed_number s) 0 s b (taken (encrypt_end s b)
 
 unfoldable pub decrypt_in_place_of : Session → List ℕ → Outcome
 decrypt_in_place_of s b = settle (keyed_number s) 0 s b (taken (decrypt_end s b) no_tag (decrypt_out s b) (decrypt_ups s b))
+
+-- either of the two, by the kind of call
+abbrev pub crypt_end : Kind → Session → List ℕ → Session
+crypt_end Seal s m = encrypt_end s m
+crypt_end Open s m = decrypt_end s m
+
+abbrev pub crypt_out : Kind → Session → List ℕ → List ℕ
+crypt_out Seal s m = encrypt_out s m
+crypt_out Open s m = decrypt_out s m
+
+abbrev pub crypt_of : Kind → Session → List ℕ → List ℕ → Outcome
+crypt_of Seal s o m = encrypt_of s o m
+crypt_of Open s o m = decrypt_of s o m
+
+abbrev pub crypt_in_place_of : Kind → Session → List ℕ → Outcome
+crypt_in_place_of Seal s b = encrypt_in_place_of s b
+crypt_in_place_of Open s b = decrypt_in_place_of s b
 
 -- ---- the tag: 16 bytes squeezed
 unfoldable pub tag_end : Session → Session

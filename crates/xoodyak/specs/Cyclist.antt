@@ -1,5 +1,6 @@
 -- What each call does to the 48 bytes, the mode and the phase, from the Xoodyak specification with the crate's differences.
-use Rattle.std.specs.Prelude.{Bool, true, false, List, [], ◌∷◌, ◌++◌, ℕ, ◌-◌, min, eqb, length, replicate, take}
+use denote.Ref.{Bor}
+use Rattle.std.specs.Prelude.{Bool, true, false, Option, None, Some, List, [], ◌∷◌, ◌++◌, ℕ, ◌-◌, min, eqb, length, replicate, take}
 use Rattle.laws.specs.Words.{◌⊙◌}
 use Rattle.laws.specs.Lists.{add_front, add_at}
 use Rattle.laws.specs.Blocks.{cuts, blocks, sizes}
@@ -152,3 +153,13 @@ key_call d key has_id id nonce has_counter counter =
     let a = absorb 44 2 d (key ++ (t ++ (length t ∷ []))) in
     let b = if_given has_id (absorb 44 0 a nonce) a in
     if_given has_counter (absorb 1 0 b counter) b
+
+-- the bytes of an optional slice, none where it is absent
+abbrev pub bytes_in : Option (Bor (List ℕ)) → List ℕ
+bytes_in None = []
+bytes_in (Some x) = x.now
+
+-- an optional slice absorbed with 00
+abbrev pub absorb_given : ℕ → Duplex → Option (Bor (List ℕ)) → Duplex
+absorb_given r d None = d
+absorb_given r d (Some x) = absorb r 0 d x.now

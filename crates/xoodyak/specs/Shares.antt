@@ -1,5 +1,6 @@
 -- What each accepted call costs in permutations, from public parts alone: mode, rule, phase, presence flags, rates, lengths and allowances.
-use Rattle.std.specs.Prelude.{Bool, true, false, ℕ, zero, suc, ◌+◌, ◌-◌, ◌*◌, ◌%◌, min, max}
+use denote.Ref.{Bor}
+use Rattle.std.specs.Prelude.{Bool, true, false, Option, None, Some, List, length, ℕ, zero, suc, ◌+◌, ◌-◌, ◌*◌, ◌%◌, min, max}
 use Rattle.laws.specs.Blocks.{block_count}
 use Rattle.xoodyak.specs.declared.cyclist.Mode.{Mode}
 use Rattle.xoodyak.specs.declared.cyclist.Phase.{Phase}
@@ -44,6 +45,11 @@ unfoldable pub key_share : Phase → ℕ → Bool → ℕ → ℕ → Bool → �
 key_share phase key has_id id nonce has_counter counter =
     absorb_share phase 44 (key + (chosen_length has_id id nonce + 1))
     + (if_given_ups has_id (absorb_share Down 44 nonce) + if_given_ups has_counter (absorb_share Down 1 counter))
+
+-- an optional slice, absorbed after the key
+abbrev pub given_share : ℕ → Option (Bor (List ℕ)) → ℕ
+given_share r None = 0
+given_share r (Some x) = absorb_share Down r (length x.now)
 
 -- a feed, from the place, the allowance and the piece's length: the block begun last takes what it has room for, and each further block costs one
 abbrev pub room_in : Bool → ℕ → ℕ

@@ -1,12 +1,13 @@
 // Cyclist: Up, Down, absorb and squeeze over 48 bytes, a mode and a phase.
 ghost use Rattle.std.specs.Prelude.{◌≡◌, ◌≤◌, ◌<◌, length};
-ghost use Rattle.laws.specs.Blocks.{sizes};
 ghost use Rattle.xoodoo.specs.Xoodoo.{to_bytes};
 ghost use Rattle.xoodyak.specs.declared.cyclist.Mode.{Mode};
-ghost use Rattle.xoodyak.specs.declared.cyclist.Phase.TheVariants.{Up};
-ghost use Rattle.xoodyak.specs.Cyclist.{fresh, absorb_rate, squeeze_rate, up_colour, up, down, ready, absorb, absorb_more, nexts_end, nexts_out, squeeze_end, squeeze_out, squeeze_more_end, squeeze_more_out};
+ghost use Rattle.xoodyak.specs.declared.cyclist.Phase.TheVariants.{Up, Down};
+ghost use Rattle.xoodyak.specs.Cyclist.{fresh, absorb_rate, squeeze_rate, up_colour, down_colour, up, down, ready, absorb, absorb_more, squeeze_end, squeeze_out, squeeze_more_end, squeeze_more_out};
+ghost use Rattle.xoodyak.specs.Numbers.{mode_number, rate_number};
+ghost use Rattle.xoodyak.specs.Refusals.{Tells};
 
-use crate::bytes::least;
+use crate::numbers::Refusal;
 use crate::words::{absorb_block, down_words, next_words, write_front};
 use xoodoo::round::State;
 use xoodoo::words::{colour, from_words, permute_bytes, permute_words, to_words};
@@ -30,17 +31,68 @@ pub struct Duplex {
     pub phase: Phase,
 }
 
-// Squeeze_more in the words that an Up left, in either mode.
-fn squeeze_words(w: State, rate: usize, out: &mut [u8]) -> State
-    requires { (0 < rate) × (rate ≤ 24) }
-    ensures phase_value { (m : Mode) → record { st = to_bytes result; mode = m; phase = Up } ≡ nexts_end (sizes rate (length out.old)) (record { st = to_bytes w; mode = m; phase = Up }) }
-    ensures out_after { (m : Mode) → out.new ≡ nexts_out (sizes rate (length out.old)) (record { st = to_bytes w; mode = m; phase = Up }) }
+impl Mode {
+    pub fn absorb_rate(self) -> usize
+        ensures { result ≡ absorb_rate self }
+    {
+        match self {
+            Self::Hash => 16,
+            Self::Keyed => 44,
+        }
+    }
+
+    pub fn squeeze_rate(self) -> usize
+        ensures { result ≡ squeeze_rate self }
+    {
+        match self {
+            Self::Hash => 16,
+            Self::Keyed => 24,
+        }
+    }
+
+    // The colour that Down adds.
+    pub fn down_colour(self, cd: u8) -> u8
+        ensures { result ≡ down_colour self cd }
+    {
+        match self {
+            Self::Hash => cd & 1,
+            Self::Keyed => cd,
+        }
+    }
+
+    // Keyed-only calls are refused in Hash.
+    pub fn keyed(self) -> Result<(), Refusal>
+        ensures { Tells result (mode_number self) 0 }
+    {
+        match self {
+            Self::Hash => Err(Refusal::KeyRequired),
+            Self::Keyed => Ok(()),
+        }
+    }
+
+    // Whether absorb_more may have this rate.
+    #[tactic(auto, using(crate::proofs::Settle::rates))]
+    pub fn takes(self, rate: usize) -> Result<(), Refusal>
+        ensures { Tells result (rate_number self rate) 0 }
+    {
+        if rate == 0 || self.absorb_rate() < rate {
+            return Err(Refusal::BadRate);
+        }
+        Ok(())
+    }
+}
+
+// Squeeze_more in the words that an Up left. By index: of a block that chunks_mut or a moved cursor lends, no proof knows what it is after.
+fn squeeze_words(w: State, mode: Mode, out: &mut [u8]) -> State
+    ensures value { record { st = to_bytes result; mode = mode; phase = Up } ≡ squeeze_more_end (record { st = to_bytes w; mode = mode; phase = Up }) (length out.old) }
+    ensures out_after { out.new ≡ squeeze_more_out (record { st = to_bytes w; mode = mode; phase = Up }) (length out.old) }
 {
     let n = out.len();
+    let rate = mode.squeeze_rate();
     let mut v = w;
     let mut i = 0;
     while i < n {
-        let e = i + least(rate, n - i);
+        let e = i + rate.min(n - i);
         v = next_words(v);
         write_front(v, &mut out[i..e]);
         i = e;
@@ -49,33 +101,13 @@ fn squeeze_words(w: State, rate: usize, out: &mut [u8]) -> State
 }
 
 impl Duplex {
-    pub(crate) fn fresh(mode: Mode) -> Duplex
+    pub(crate) fn fresh(mode: Mode) -> Self
         ensures { result ≡ fresh mode }
     {
         Duplex {
             st: [0; 48],
-            mode: mode,
+            mode,
             phase: Phase::Up,
-        }
-    }
-
-    pub(crate) fn absorb_rate(self) -> usize
-        ensures { result ≡ absorb_rate self.mode }
-    {
-        let mode = self.mode;
-        match mode {
-            Mode::Hash => 16,
-            Mode::Keyed => 44,
-        }
-    }
-
-    pub(crate) fn squeeze_rate(self) -> usize
-        ensures { result ≡ squeeze_rate self.mode }
-    {
-        let mode = self.mode;
-        match mode {
-            Mode::Hash => 16,
-            Mode::Keyed => 24,
         }
     }
 
@@ -83,139 +115,118 @@ impl Duplex {
     pub(crate) fn coloured(self, cu: u8) -> State
         ensures { to_bytes result ≡ up_colour self.mode cu self.st }
     {
-        let st = self.st;
-        let v = to_words(&st);
-        let mode = self.mode;
-        match mode {
+        let v = to_words(&self.st);
+        match self.mode {
             Mode::Hash => v,
             Mode::Keyed => colour(v, cu),
         }
     }
 
     // Where the bytes lie, for those who go on in bytes.
-    pub(crate) fn up(self, cu: u8) -> Duplex
+    pub(crate) fn up(self, cu: u8) -> Self
         ensures { result ≡ up self cu }
     {
-        let mut st = self.st;
-        let mode = self.mode;
-        match mode {
-            Mode::Hash => {}
-            Mode::Keyed => {
-                st[47] = st[47] ^ cu;
-            }
+        let Duplex { mut st, mode, .. } = self;
+        if let Mode::Keyed = mode {
+            st[47] ^= cu;
         }
         permute_bytes(&mut st);
         Duplex {
-            st: st,
-            mode: mode,
+            st,
+            mode,
             phase: Phase::Up,
         }
     }
 
     // The duplex after an Up that left these words.
-    pub(crate) fn after_up(v: State, mode: Mode) -> Duplex
+    pub(crate) fn after_up(v: State, mode: Mode) -> Self
         ensures { result ≡ record { st = to_bytes v; mode = mode; phase = Up } }
     {
-        let st = from_words(v);
         Duplex {
-            st: st,
-            mode: mode,
+            st: from_words(v),
+            mode,
             phase: Phase::Up,
         }
     }
 
-    pub(crate) fn down(self, x: &[u8], cd: u8) -> Duplex
-        requires { length x.now < 48 }
-        ensures { result ≡ down self x.now cd }
+    // After a Down.
+    pub(crate) fn after_down(v: State, mode: Mode) -> Self
+        ensures { result ≡ record { st = to_bytes v; mode = mode; phase = Down } }
     {
-        let st = self.st;
-        let mode = self.mode;
-        let v = down_words(to_words(&st), x);
-        let cd = match mode {
-            Mode::Hash => cd & 1,
-            Mode::Keyed => cd,
-        };
-        let after = from_words(colour(v, cd));
         Duplex {
-            st: after,
-            mode: mode,
+            st: from_words(v),
+            mode,
             phase: Phase::Down,
         }
     }
 
+    // The bound stands in each Down, and in no type: the slices are cut by the rate where they are passed, and used once.
+    #[tactic(auto, unfolding(crate::specs::Cyclist::down, crate::specs::Cyclist::down_bytes))]
+    pub(crate) fn down(self, x: &[u8], cd: u8) -> Self
+        requires { length x.now < 48 }
+        ensures { result ≡ down self x.now cd }
+    {
+        let v = down_words(to_words(&self.st), x);
+        Duplex::after_down(colour(v, self.mode.down_colour(cd)), self.mode)
+    }
+
     // Up(0, 00) if the phase isn't Up.
-    pub(crate) fn ready(self) -> Duplex
+    #[tactic(auto, unfolding(crate::specs::Cyclist::ready))]
+    pub(crate) fn ready(self) -> Self
         ensures { result ≡ ready self }
     {
-        let phase = self.phase;
-        match phase {
+        match self.phase {
             Phase::Up => self,
             Phase::Down => self.up(0),
         }
     }
 
-    pub(crate) fn absorb_more(self, bin: &[u8], rate: usize) -> Duplex
+    // A rate is one of 1, 16 and 44, and no type of its own: its callers write the number, or the mode's.
+    pub(crate) fn absorb_more(self, bin: &[u8], rate: usize) -> Self
         requires { (0 < rate) × (rate ≤ 44) }
         ensures { result ≡ absorb_more rate self bin.now }
     {
-        let n = bin.len();
-        if n == 0 {
+        if bin.is_empty() {
             return self;
         }
-        let mode = self.mode;
-        let st = self.st;
-        let mut v = to_words(&st);
-        let mut i = 0;
-        while i < n {
-            let e = i + least(rate, n - i);
-            v = absorb_block(v, &bin[i..e]);
-            i = e;
+        let mut v = to_words(&self.st);
+        for block in bin.chunks(rate) {
+            v = absorb_block(v, block);
         }
-        let after = from_words(v);
-        Duplex {
-            st: after,
-            mode: mode,
-            phase: Phase::Down,
-        }
+        Duplex::after_down(v, self.mode)
     }
 
-    pub(crate) fn absorb_any(self, bin: &[u8], rate: usize, cd: u8) -> Duplex
+    pub(crate) fn absorb_any(self, bin: &[u8], rate: usize, cd: u8) -> Self
         requires { (0 < rate) × (rate ≤ 44) }
         ensures { result ≡ absorb rate cd self bin.now }
     {
-        let k = least(rate, bin.len());
-        let d = self.ready().down(&bin[..k], cd);
-        d.absorb_more(&bin[k..], rate)
+        let (first, others) = bin.split_at(rate.min(bin.len()));
+        self.ready().down(first, cd).absorb_more(others, rate)
     }
 
-    pub(crate) fn squeeze_more(self, out: &mut [u8]) -> Duplex
+    pub(crate) fn squeeze_more(self, out: &mut [u8]) -> Self
         ensures value { result ≡ squeeze_more_end self (length out.old) }
         ensures out_after { out.new ≡ squeeze_more_out self (length out.old) }
     {
-        let n = out.len();
-        if n == 0 {
+        if out.is_empty() {
             return self;
         }
-        let rate = self.squeeze_rate();
-        let mode = self.mode;
-        let st = self.st;
-        Duplex::after_up(squeeze_words(to_words(&st), rate, out), mode)
+        let v = squeeze_words(to_words(&self.st), self.mode, out);
+        Duplex::after_up(v, self.mode)
     }
 
-    pub(crate) fn squeeze_any(self, out: &mut [u8], cu: u8) -> Duplex
+    pub(crate) fn squeeze_any(self, out: &mut [u8], cu: u8) -> Self
         ensures value { result ≡ squeeze_end self (length out.old) cu }
         ensures out_after { out.new ≡ squeeze_out self (length out.old) cu }
     {
         let n = out.len();
-        let rate = self.squeeze_rate();
-        let k = least(rate, n);
-        let mode = self.mode;
+        let k = self.mode.squeeze_rate().min(n);
         let v = permute_words(self.coloured(cu));
         write_front(v, &mut out[..k]);
         // most squeezes end here, and need not hand their words on
         if k == n {
-            return Duplex::after_up(v, mode);
+            return Duplex::after_up(v, self.mode);
         }
-        Duplex::after_up(squeeze_words(v, rate, &mut out[k..]), mode)
+        Duplex::after_up(squeeze_words(v, self.mode, &mut out[k..]), self.mode)
     }
 }

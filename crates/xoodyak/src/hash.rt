@@ -5,7 +5,6 @@ ghost use Rattle.xoodyak.specs.Calls.{session, answer_of, absorb_of, absorb_more
 
 use crate::cyclist::{Duplex, Mode};
 use crate::feed::Message;
-use crate::numbers::first;
 use crate::shares::block_count;
 use crate::{Answer, Rule, Session};
 
@@ -15,7 +14,7 @@ impl Session {
     {
         Session {
             duplex: Duplex::fresh(Mode::Hash),
-            rule: rule,
+            rule,
             message: Message::idle(),
         }
     }
@@ -23,64 +22,58 @@ impl Session {
     pub fn absorb(self, bin: &[u8]) -> Answer
         ensures { result ≡ answer_of (absorb_of self bin.now) }
     {
-        let d = self.duplex;
-        let number = self.unfinished_number();
-        if number != 0 {
-            return self.answer(number);
+        if let Err(refusal) = self.unbegun() {
+            return self.refused(refusal);
         }
-        let rate = d.absorb_rate();
-        self.onward(d.absorb_any(bin, rate, 0x03))
-            .paid(0, d.absorb_share(rate, bin.len()))
+        let rate = self.duplex.mode.absorb_rate();
+        self.onward(self.duplex.absorb_any(bin, rate, 0x03))
+            .paid(0, self.duplex.absorb_share(rate, bin.len()))
     }
 
     pub fn absorb_more(self, bin: &[u8], rate: usize) -> Answer
         ensures { result ≡ answer_of (absorb_more_of self bin.now rate) }
     {
-        let d = self.duplex;
-        let number = first(self.unfinished_number(), self.rate_number(rate));
-        if number != 0 {
-            return self.answer(number);
+        if let Err(refusal) = self.unbegun_at(rate) {
+            return self.refused(refusal);
         }
-        self.onward(d.absorb_more(bin, rate))
+        self.onward(self.duplex.absorb_more(bin, rate))
             .paid(0, block_count(rate, bin.len()))
+    }
+
+    // A squeeze with this colour.
+    fn squeeze_with(self, cu: u8, out: &mut [u8]) -> Answer
+        ensures value { result ≡ answer_of (squeeze_of cu self out.old) }
+        ensures out_after { out.new ≡ (squeeze_of cu self out.old).bytes }
+    {
+        if let Err(refusal) = self.unbegun() {
+            return self.refused(refusal);
+        }
+        self.onward(self.duplex.squeeze_any(out, cu))
+            .paid(0, self.duplex.squeeze_share(out.len()))
     }
 
     pub fn squeeze(self, out: &mut [u8]) -> Answer
         ensures value { result ≡ answer_of (squeeze_of 0x40 self out.old) }
         ensures out_after { out.new ≡ (squeeze_of 0x40 self out.old).bytes }
     {
-        let d = self.duplex;
-        let number = self.unfinished_number();
-        if number != 0 {
-            return self.answer(number);
-        }
-        self.onward(d.squeeze_any(out, 0x40))
-            .paid(0, d.squeeze_share(out.len()))
+        self.squeeze_with(0x40, out)
     }
 
     pub fn squeeze_key(self, out: &mut [u8]) -> Answer
         ensures value { result ≡ answer_of (squeeze_of 0x20 self out.old) }
         ensures out_after { out.new ≡ (squeeze_of 0x20 self out.old).bytes }
     {
-        let d = self.duplex;
-        let number = self.unfinished_number();
-        if number != 0 {
-            return self.answer(number);
-        }
-        self.onward(d.squeeze_any(out, 0x20))
-            .paid(0, d.squeeze_share(out.len()))
+        self.squeeze_with(0x20, out)
     }
 
     pub fn squeeze_more(self, out: &mut [u8]) -> Answer
         ensures value { result ≡ answer_of (squeeze_more_of self out.old) }
         ensures out_after { out.new ≡ (squeeze_more_of self out.old).bytes }
     {
-        let d = self.duplex;
-        let number = self.unfinished_number();
-        if number != 0 {
-            return self.answer(number);
+        if let Err(refusal) = self.unbegun() {
+            return self.refused(refusal);
         }
-        self.onward(d.squeeze_more(out))
-            .paid(0, block_count(d.squeeze_rate(), out.len()))
+        self.onward(self.duplex.squeeze_more(out))
+            .paid(0, block_count(self.duplex.mode.squeeze_rate(), out.len()))
     }
 }

@@ -1,15 +1,17 @@
 // Keyed sessions: the key call, ratchet, encryption and decryption.
-ghost use Rattle.std.specs.Prelude.{◌≡◌, [], ◌∷◌, ◌++◌, ◌+◌, ◌≤◌, length, take};
+ghost use Rattle.std.specs.Prelude.{◌≡◌, [], ◌∷◌, ◌++◌, ◌+◌, ◌<◌, ◌≤◌, length, take};
 ghost use Rattle.laws.specs.Blocks.{cuts};
-ghost use Rattle.xoodyak.specs.Cyclist.{up, down, ratchet, key_call, empty_block, enc_end, enc_out, dec_end, dec_out};
-ghost use Rattle.xoodyak.specs.Calls.{answer_of, key_of, new_of, ratchet_of, encrypt_end, encrypt_out, decrypt_end, decrypt_out, encrypt_of, decrypt_of, encrypt_in_place_of, decrypt_in_place_of};
+ghost use Rattle.xoodyak.specs.Cyclist.{up, down, absorb, absorb_given, ratchet, empty_block, enc_end, enc_out, dec_end, dec_out};
+ghost use Rattle.xoodyak.specs.Calls.{answer_of, key_of, new_of, ratchet_of, encrypt_of, decrypt_of, encrypt_in_place_of, decrypt_in_place_of, crypt_end, crypt_out, crypt_of, crypt_in_place_of};
 
-use crate::bytes::{choose, copy_into, least, or_empty};
-use crate::cyclist::{Duplex, Mode, Phase};
-use crate::numbers::{first, key_number, missing, room_number};
+use crate::bytes::{choose, or_empty};
+use crate::cyclist::{Duplex, Mode};
+use crate::feed::Kind;
+use crate::key::KeyParts;
+use crate::numbers::key_lengths;
 use crate::words::{decrypt_block, decrypt_full, encrypt_block};
 use crate::{Answer, Rule, Session};
-use xoodoo::words::from_words;
+use xoodoo::words::{Six, permute_words};
 
 // Key, t and the length of t, at the front of 44 bytes; how many.
 fn write_iv(iv: &mut [u8], key: &[u8], t: &[u8]) -> usize
@@ -17,42 +19,34 @@ fn write_iv(iv: &mut [u8], key: &[u8], t: &[u8]) -> usize
     ensures { (result ≡ length key.now + 1 + length t.now) × (take result iv.new ≡ key.now ++ (t.now ++ (length t.now ∷ []))) }
 {
     let k = key.len();
-    let n = t.len();
-    let e = k + n;
-    copy_into(&mut iv[..k], key);
-    copy_into(&mut iv[k..e], t);
-    iv[e] = n as u8;
+    let e = k + t.len();
+    iv[..k].copy_from_slice(key);
+    iv[k..e].copy_from_slice(t);
+    iv[e] = t.len() as u8;
     e + 1
 }
 
 impl Duplex {
-    // The key call; an absent key id or nonce is empty.
-    pub(crate) fn key_call<'a>(
-        self,
-        key: &[u8],
-        has_id: bool,
-        id: &'a [u8],
-        nonce: &'a [u8],
-        has_counter: bool,
-        counter: &[u8],
-    ) -> Duplex
-        requires { length key.now + 1 + length id.now + length nonce.now ≤ 44 }
-        ensures { result ≡ key_call self key.now has_id id.now nonce.now has_counter counter.now }
+    // Absorbs an optional slice.
+    fn absorb_given(self, rate: usize, x: Option<&[u8]>) -> Self
+        requires { (0 < rate) × (rate ≤ 44) }
+        ensures { result ≡ absorb_given rate self x.entry }
     {
-        let t = choose(has_id, id, nonce);
-        let mut iv = [0u8; 44];
-        let n = write_iv(&mut iv, key, t);
-        let a = self.absorb_any(&iv[..n], 44, 0x02);
-        let b = if has_id {
-            a.absorb_any(nonce, 44, 0)
-        } else {
-            a
-        };
-        if has_counter {
-            b.absorb_any(counter, 1, 0)
-        } else {
-            b
+        match x {
+            Some(x) => self.absorb_any(x, rate, 0),
+            None => self,
         }
+    }
+
+    // The key call.
+    pub(crate) fn key_call(self, parts: KeyParts) -> Self
+        ensures { result ≡ absorb_given 1 (absorb_given 44 (absorb 44 2 self (parts.entry.key.now ++ (parts.entry.t.now ++ (length parts.entry.t.now ∷ [])))) parts.entry.nonce) parts.entry.counter }
+    {
+        let mut iv = [0u8; 44];
+        let n = write_iv(&mut iv, parts.key, parts.t);
+        self.absorb_any(&iv[..n], 44, 0x02)
+            .absorb_given(44, parts.nonce)
+            .absorb_given(1, parts.counter)
     }
 
     pub(crate) fn ratchet(self) -> Duplex
@@ -70,7 +64,7 @@ impl Duplex {
         self.up(0x80).down(b"", 0)
     }
 
-    pub(crate) fn encrypt_blocks(self, buf: &mut [u8]) -> Duplex
+    pub(crate) fn encrypt_blocks(self, buf: &mut [u8]) -> Self
         ensures value { result ≡ enc_end (cuts 24 buf.old) 0x80 self }
         ensures buf_after { buf.new ≡ enc_out (cuts 24 buf.old) 0x80 self }
     {
@@ -78,24 +72,19 @@ impl Duplex {
         if n == 0 {
             return self;
         }
-        let mode = self.mode;
         // 80 is added once, before the loop, and every block's Up has 00
         let mut v = self.coloured(0x80);
+        // by index: of a block that chunks_mut or a moved cursor lends, no proof knows what it is after
         let mut i = 0;
         while i < n {
-            let end = i + least(24, n - i);
-            v = encrypt_block(v, &mut buf[i..end]);
-            i = end;
+            let e = i + (n - i).min(24);
+            v = encrypt_block(v, &mut buf[i..e]);
+            i = e;
         }
-        let st = from_words(v);
-        Duplex {
-            st: st,
-            mode: mode,
-            phase: Phase::Down,
-        }
+        Duplex::after_down(v, self.mode)
     }
 
-    pub(crate) fn decrypt_blocks(self, buf: &mut [u8]) -> Duplex
+    pub(crate) fn decrypt_blocks(self, buf: &mut [u8]) -> Self
         ensures value { result ≡ dec_end (cuts 24 buf.old) 0x80 self }
         ensures buf_after { buf.new ≡ dec_out (cuts 24 buf.old) 0x80 self }
     {
@@ -103,59 +92,71 @@ impl Duplex {
         if n == 0 {
             return self;
         }
-        let mode = self.mode;
         // 80 is added once, before the loop, and every block's Up has 00
         let mut v = self.coloured(0x80);
+        // full blocks by themselves, so that their loop holds no words for the other lengths; by index, as in encrypt_blocks
         let mut i = 0;
-        // full blocks by themselves, so that their loop holds no words for the other lengths
         while 24 <= n - i {
-            v = decrypt_full(v, &mut buf[i..i + 24]);
-            i = i + 24;
+            v = decrypt_full::<Six>(permute_words(v), &mut buf[i..i + 24]);
+            i += 24;
         }
         if i < n {
             v = decrypt_block(v, &mut buf[i..n]);
         }
-        let st = from_words(v);
-        Duplex {
-            st: st,
-            mode: mode,
-            phase: Phase::Down,
+        Duplex::after_down(v, self.mode)
+    }
+}
+
+impl Rule {
+    // Whether a message of n bytes is one empty block.
+    pub fn is_empty_block(self, n: usize) -> bool
+        ensures { result ≡ empty_block self n }
+    {
+        match self {
+            Self::Crate => false,
+            Self::Specification => n == 0,
         }
     }
 }
 
 impl Session {
-    // Whether a message of n bytes is one empty block.
-    pub(crate) fn is_empty_block(self, n: usize) -> bool
-        ensures { result ≡ empty_block self.rule n }
+    // A message encrypted or decrypted where it lies.
+    pub(crate) fn crypt(self, kind: Kind, buf: &mut [u8]) -> Session
+        ensures value { result ≡ crypt_end kind self buf.old }
+        ensures buf_after { buf.new ≡ crypt_out kind self buf.old }
     {
-        let rule = self.rule;
-        match rule {
-            Rule::Crate => false,
-            Rule::Specification => n == 0,
+        if self.rule.is_empty_block(buf.len()) {
+            return self.onward(self.duplex.empty_block());
+        }
+        match kind {
+            Kind::Seal => self.onward(self.duplex.encrypt_blocks(buf)),
+            Kind::Open => self.onward(self.duplex.decrypt_blocks(buf)),
         }
     }
 
-    pub(crate) fn encrypt_message(self, buf: &mut [u8]) -> Session
-        ensures value { result ≡ encrypt_end self buf.old }
-        ensures buf_after { buf.new ≡ encrypt_out self buf.old }
+    // By copy into the front of an output; what lies past it stays.
+    fn crypt_into(self, kind: Kind, out: &mut [u8], bin: &[u8]) -> Answer
+        ensures value { result ≡ answer_of (crypt_of kind self out.old bin.now) }
+        ensures out_after { out.new ≡ (crypt_of kind self out.old bin.now).bytes }
     {
-        let d = self.duplex;
-        if self.is_empty_block(buf.len()) {
-            return self.onward(d.empty_block());
+        let n = bin.len();
+        if let Err(refusal) = self.keyed_with_room(out.len(), n) {
+            return self.refused(refusal);
         }
-        self.onward(d.encrypt_blocks(buf))
+        let text = &mut out[..n];
+        text.copy_from_slice(bin);
+        self.crypt(kind, text).paid(0, self.message_share(n))
     }
 
-    pub(crate) fn decrypt_message(self, buf: &mut [u8]) -> Session
-        ensures value { result ≡ decrypt_end self buf.old }
-        ensures buf_after { buf.new ≡ decrypt_out self buf.old }
+    fn crypt_in_place(self, kind: Kind, in_out: &mut [u8]) -> Answer
+        ensures value { result ≡ answer_of (crypt_in_place_of kind self in_out.old) }
+        ensures in_out_after { in_out.new ≡ (crypt_in_place_of kind self in_out.old).bytes }
     {
-        let d = self.duplex;
-        if self.is_empty_block(buf.len()) {
-            return self.onward(d.empty_block());
+        if let Err(refusal) = self.keyed() {
+            return self.refused(refusal);
         }
-        self.onward(d.decrypt_blocks(buf))
+        self.crypt(kind, in_out)
+            .paid(0, self.message_share(in_out.len()))
     }
 
     // Refused, it hands back a fresh Hash session with that rule.
@@ -173,15 +174,20 @@ impl Session {
     {
         let i = or_empty(has_id, id);
         let m = or_empty(has_nonce, nonce);
-        let number = key_number(key.len(), i.len(), m.len());
-        let refused = Session::hash(rule);
-        if number != 0 {
-            return refused.answer(number);
+        let unkeyed = Session::hash(rule);
+        if let Err(refusal) = key_lengths(key.len(), i.len(), m.len()) {
+            return unkeyed.refused(refusal);
         }
+        let parts = KeyParts {
+            key,
+            t: choose(has_id, i, m),
+            nonce: has_id.then_some(m),
+            counter: has_counter.then_some(counter),
+        };
         let d = Duplex::fresh(Mode::Keyed);
-        refused
-            .onward(d.key_call(key, has_id, i, m, has_counter, counter))
-            .paid(0, d.key_share(key, has_id, i, m, has_counter, counter))
+        unkeyed
+            .onward(d.key_call(parts))
+            .paid(0, d.key_share(parts))
     }
 
     pub fn absorb_key_and_nonce<'a>(
@@ -198,75 +204,53 @@ impl Session {
     {
         let i = or_empty(has_id, id);
         let m = or_empty(has_nonce, nonce);
-        let d = self.duplex;
-        let number = first(self.keyed_number(), key_number(key.len(), i.len(), m.len()));
-        if number != 0 {
-            return self.answer(number);
+        if let Err(refusal) = self.keyed_with_lengths(key.len(), i.len(), m.len()) {
+            return self.refused(refusal);
         }
-        self.onward(d.key_call(key, has_id, i, m, has_counter, counter))
-            .paid(0, d.key_share(key, has_id, i, m, has_counter, counter))
+        let parts = KeyParts {
+            key,
+            t: choose(has_id, i, m),
+            nonce: has_id.then_some(m),
+            counter: has_counter.then_some(counter),
+        };
+        self.onward(self.duplex.key_call(parts))
+            .paid(0, self.duplex.key_share(parts))
     }
 
     pub fn ratchet(self) -> Answer
         ensures { result ≡ answer_of (ratchet_of self) }
     {
-        let d = self.duplex;
-        let number = self.keyed_number();
-        if number != 0 {
-            return self.answer(number);
+        if let Err(refusal) = self.keyed() {
+            return self.refused(refusal);
         }
-        self.onward(d.ratchet()).paid(0, 1)
+        self.onward(self.duplex.ratchet()).paid(0, 1)
     }
 
     pub fn encrypt(self, out: &mut [u8], bin: &[u8]) -> Answer
         ensures value { result ≡ answer_of (encrypt_of self out.old bin.now) }
         ensures out_after { out.new ≡ (encrypt_of self out.old bin.now).bytes }
     {
-        let n = bin.len();
-        let number = first(self.keyed_number(), room_number(out.len(), n));
-        if number != 0 {
-            return self.short_answer(number, missing(number, out.len(), n));
-        }
-        copy_into(out, bin);
-        self.encrypt_message(&mut out[..n])
-            .paid(0, self.message_share(n))
+        self.crypt_into(Kind::Seal, out, bin)
     }
 
     pub fn decrypt(self, out: &mut [u8], bin: &[u8]) -> Answer
         ensures value { result ≡ answer_of (decrypt_of self out.old bin.now) }
         ensures out_after { out.new ≡ (decrypt_of self out.old bin.now).bytes }
     {
-        let n = bin.len();
-        let number = first(self.keyed_number(), room_number(out.len(), n));
-        if number != 0 {
-            return self.short_answer(number, missing(number, out.len(), n));
-        }
-        copy_into(out, bin);
-        self.decrypt_message(&mut out[..n])
-            .paid(0, self.message_share(n))
+        self.crypt_into(Kind::Open, out, bin)
     }
 
     pub fn encrypt_in_place(self, in_out: &mut [u8]) -> Answer
         ensures value { result ≡ answer_of (encrypt_in_place_of self in_out.old) }
         ensures in_out_after { in_out.new ≡ (encrypt_in_place_of self in_out.old).bytes }
     {
-        let number = self.keyed_number();
-        if number != 0 {
-            return self.answer(number);
-        }
-        self.encrypt_message(in_out)
-            .paid(0, self.message_share(in_out.len()))
+        self.crypt_in_place(Kind::Seal, in_out)
     }
 
     pub fn decrypt_in_place(self, in_out: &mut [u8]) -> Answer
         ensures value { result ≡ answer_of (decrypt_in_place_of self in_out.old) }
         ensures in_out_after { in_out.new ≡ (decrypt_in_place_of self in_out.old).bytes }
     {
-        let number = self.keyed_number();
-        if number != 0 {
-            return self.answer(number);
-        }
-        self.decrypt_message(in_out)
-            .paid(0, self.message_share(in_out.len()))
+        self.crypt_in_place(Kind::Open, in_out)
     }
 }

@@ -6,6 +6,7 @@ pub mod bytes;
 pub mod cyclist;
 pub mod feed;
 pub mod hash;
+pub mod key;
 pub mod keyed;
 pub mod numbers;
 pub mod shares;
@@ -14,9 +15,11 @@ mod words;
 
 ghost use Rattle.std.specs.Prelude.{◌≡◌};
 ghost use Rattle.xoodyak.specs.Calls.{onward};
+ghost use Rattle.xoodyak.specs.Refusals.{number_of, missing_of};
 
 use cyclist::Duplex;
 use feed::Message;
+use numbers::Refusal;
 use tag::Tag;
 
 // Whose rule an empty message follows: the crate's, where it does nothing, or the specification's, where it runs one
@@ -35,6 +38,7 @@ pub struct Session {
 }
 
 // What a call hands back: the session, 0 or the number of the refusal, with 3 how many bytes the output lacks, and the permutations spent.
+// A number and no `Result`: by the rules of this project public calls refuse by a number beside the session (`Demand1.antt` says which).
 #[derive(Clone, Copy)]
 pub struct Answer {
     pub session: Session,
@@ -58,23 +62,17 @@ impl Session {
     pub(crate) fn onward(self, duplex: Duplex) -> Session
         ensures { result ≡ onward self duplex }
     {
-        let rule = self.rule;
-        let message = self.message;
-        Session {
-            duplex: duplex,
-            rule: rule,
-            message: message,
-        }
+        Session { duplex, ..self }
     }
 
     // The answer of a refused call, which spends nothing.
-    pub(crate) fn answer(self, number: u8) -> Answer
-        ensures { result ≡ record { session = self; number = number; missing = 0; spent = 0 } }
+    pub(crate) fn refused(self, refusal: Refusal) -> Answer
+        ensures { result ≡ record { session = self; number = number_of refusal; missing = missing_of refusal; spent = 0 } }
     {
         Answer {
             session: self,
-            number: number,
-            missing: 0,
+            number: refusal.number(),
+            missing: refusal.missing(),
             spent: 0,
         }
     }
@@ -85,33 +83,24 @@ impl Session {
     {
         Answer {
             session: self,
-            number: number,
+            number,
             missing: 0,
-            spent: spent,
+            spent,
         }
     }
+}
 
-    // The answer of a refused call that needs room in an output.
-    pub(crate) fn short_answer(self, number: u8, missing: usize) -> Answer
-        ensures { result ≡ record { session = self; number = number; missing = missing; spent = 0 } }
-    {
-        Answer {
-            session: self,
-            number: number,
-            missing: missing,
-            spent: 0,
-        }
-    }
-
-    pub(crate) fn sealed(self, number: u8, missing: usize, tag: Tag, spent: usize) -> Sealed
-        ensures { result ≡ record { session = self; number = number; missing = missing; tag = tag; spent = spent } }
+impl Answer {
+    // The same with a tag, from sealing.
+    pub(crate) fn sealed(self, tag: Tag) -> Sealed
+        ensures { result ≡ record { session = self.session; number = self.number; missing = self.missing; tag = tag; spent = self.spent } }
     {
         Sealed {
-            session: self,
-            number: number,
-            missing: missing,
-            tag: tag,
-            spent: spent,
+            session: self.session,
+            number: self.number,
+            missing: self.missing,
+            tag,
+            spent: self.spent,
         }
     }
 }

@@ -1,10 +1,10 @@
 // What each accepted call costs in permutations, from public parts alone.
-ghost use Rattle.std.specs.Prelude.{◌≡◌, ◌+◌, ◌<◌, ◌≤◌, max, length};
+ghost use Rattle.std.specs.Prelude.{◌≡◌, ◌+◌, ◌^◌, ◌<◌, max, length};
 ghost use Rattle.laws.specs.Blocks.{block_count};
-ghost use Rattle.xoodyak.specs.Ups.{if_given_ups};
-ghost use Rattle.xoodyak.specs.Shares.{chosen_length, absorb_share, squeeze_share, message_share, seal_share, key_share};
+ghost use Rattle.xoodyak.specs.Shares.{absorb_share, squeeze_share, message_share, seal_share, given_share};
 
 use crate::cyclist::{Duplex, Phase};
+use crate::key::KeyParts;
 use crate::{Rule, Session};
 
 // n divided by the rate, rounded up.
@@ -12,16 +12,7 @@ pub(crate) fn block_count(rate: usize, n: usize) -> usize
     requires { 0 < rate }
     ensures { result ≡ block_count rate n }
 {
-    if n == 0 {
-        return 0;
-    }
-    (n - 1) / rate + 1
-}
-
-fn at_least_one(n: usize) -> usize
-    ensures { result ≡ max 1 n }
-{
-    if n == 0 { 1 } else { n }
+    n.div_ceil(rate)
 }
 
 // One per block, less one if the phase was Up; an empty input is one block.
@@ -29,23 +20,22 @@ fn absorb_share(phase: Phase, rate: usize, n: usize) -> usize
     requires { 0 < rate }
     ensures { result ≡ absorb_share phase rate n }
 {
-    let all = at_least_one(block_count(rate, n));
+    let all = block_count(rate, n).max(1);
     match phase {
         Phase::Up => all - 1,
         Phase::Down => all,
     }
 }
 
-fn given_share(has: bool, share: usize) -> usize
-    ensures { result ≡ if_given_ups has share }
+// Of an optional slice, absorbed after the key.
+fn given_share(rate: usize, x: Option<&[u8]>) -> usize
+    requires { 0 < rate }
+    ensures { (result ≡ given_share rate x.entry) × (result < 2 ^ 63) }
 {
-    if has { share } else { 0 }
-}
-
-fn chosen_length(has_id: bool, id: usize, nonce: usize) -> usize
-    ensures { result ≡ chosen_length has_id id nonce }
-{
-    if has_id { id } else { nonce }
+    match x {
+        Some(x) => absorb_share(Phase::Down, rate, x.len()),
+        None => 0,
+    }
 }
 
 impl Duplex {
@@ -53,33 +43,21 @@ impl Duplex {
         requires { 0 < rate }
         ensures { result ≡ absorb_share self.phase rate n }
     {
-        let phase = self.phase;
-        absorb_share(phase, rate, n)
+        absorb_share(self.phase, rate, n)
     }
 
     pub(crate) fn squeeze_share(self, n: usize) -> usize
         ensures { result ≡ squeeze_share self.mode n }
     {
-        at_least_one(block_count(self.squeeze_rate(), n))
+        block_count(self.mode.squeeze_rate(), n).max(1)
     }
 
-    // An absent key id or nonce is empty.
-    pub(crate) fn key_share(
-        self,
-        key: &[u8],
-        has_id: bool,
-        id: &[u8],
-        nonce: &[u8],
-        has_counter: bool,
-        counter: &[u8],
-    ) -> usize
-        requires { length key.now + 1 + length id.now + length nonce.now ≤ 44 }
-        ensures { result ≡ key_share self.phase (length key.now) has_id (length id.now) (length nonce.now) has_counter (length counter.now) }
+    pub(crate) fn key_share(self, parts: KeyParts) -> usize
+        ensures { result ≡ absorb_share self.phase 44 (length parts.entry.key.now + (length parts.entry.t.now + 1)) + (given_share 44 parts.entry.nonce + given_share 1 parts.entry.counter) }
     {
-        let t = chosen_length(has_id, id.len(), nonce.len());
-        let a = self.absorb_share(44, key.len() + (t + 1));
-        let b = given_share(has_id, absorb_share(Phase::Down, 44, nonce.len()));
-        let c = given_share(has_counter, absorb_share(Phase::Down, 1, counter.len()));
+        let a = self.absorb_share(44, parts.key.len() + (parts.t.len() + 1));
+        let b = given_share(44, parts.nonce);
+        let c = given_share(1, parts.counter);
         a + (b + c)
     }
 }
@@ -88,11 +66,10 @@ impl Session {
     pub(crate) fn message_share(self, n: usize) -> usize
         ensures { result ≡ message_share self.rule n }
     {
-        let rule = self.rule;
         let blocks = block_count(24, n);
-        match rule {
+        match self.rule {
             Rule::Crate => blocks,
-            Rule::Specification => at_least_one(blocks),
+            Rule::Specification => blocks.max(1),
         }
     }
 

@@ -10,16 +10,16 @@ pub struct Tag {
 }
 
 impl Tag {
-    pub fn default() -> Tag
+    pub fn default() -> Self
         ensures { result ≡ record { bytes = no_tag } }
     {
         Tag { bytes: [0; 16] }
     }
 
-    pub fn from_bytes(bytes: [u8; 16]) -> Tag
+    pub fn from_bytes(bytes: [u8; 16]) -> Self
         ensures { result ≡ record { bytes = bytes } }
     {
-        Tag { bytes: bytes }
+        Tag { bytes }
     }
 
     pub fn into_bytes(self) -> [u8; 16]
@@ -28,11 +28,10 @@ impl Tag {
         self.bytes
     }
 
-    // 0 where the 16 bytes are the tag, 4 otherwise.
+    // 0 where the 16 bytes are the tag, 4 otherwise: a number, as in an `Answer`.
     pub fn verify(self, bin: [u8; 16]) -> u8
         ensures { result ≡ verify_of self bin }
     {
-        let bytes = self.bytes;
-        if same_bytes(&bytes, &bin) { 0 } else { 4 }
+        if same_bytes(&self.bytes, &bin) { 0 } else { 4 }
     }
 }

@@ -1,35 +1,22 @@
 -- Refused in Hash, or where the lengths are too much; otherwise the key call on the session.
-use mathlib.Core.Path.{ap₂, ◌∙◌}
-use mathlib.Core.List.{List}
-use Prim.Native.Nat.{ℕ}
-use lib.ListN.{length}
-use Rattle.xoodyak.specs.Numbers.{first, key_number}
 use Rattle.xoodyak.specs.Calls.{answer_of, key_of}
-use Rattle.xoodyak.proofs.Costs.{key-share}
+use Rattle.xoodyak.proofs.Costs.{call-parts, share-parts, parts-fit}
 use Rattle.xoodyak.proofs.Settle.{answer-taken, answer-refused, second-zero, key_fits}
 use Rattle.xoodyak.proofs.Session.absorb_key_and_nonce.Goals as goal
 
-pub returns-then-number-ne0 : goal.returns-then-number-ne0
+pub returns-in-Err : goal.returns-in-Err
 unfolding key_of
-returns-then-number-ne0 c =
-    let lengths = ap₂ (λ (i m : List ℕ). key_number (length c.args.key.now) (length i) (length m)) c.or_empty-i.ensures c.or_empty-m.ensures in
-    let number = c.first-number.ensures ∙ ap₂ first c.keyed_number.ensures (c.key_number.ensures ∙ lengths) in
-    answer-refused _ _ number _ _ _ _ answer_of _ c.if-number-ne0.true c.answer.ensures
+returns-in-Err c = rw (← c.or_empty-i.ensures, ← c.or_empty-m.ensures) (answer-refused answer_of _ _ c.in-Err.ensures c.refused.ensures)
 
-pub key_call-requires : goal.key_call-requires
-key_call-requires c =
-    let k = c.key_number in
-    key_fits _ _ _ (second-zero _ c.keyed_number.result k.result _ c.first-number.ensures k.ensures c.if-number-ne0.false)
-
-pub key_share-requires : goal.key_share-requires
-key_share-requires c =
-    let k = c.key_number in
-    key_fits _ _ _ (second-zero _ c.keyed_number.result k.result _ c.first-number.ensures k.ensures c.if-number-ne0.false)
+pub invariant_of-parts : goal.invariant_of-parts
+invariant_of-parts c =
+    record { fits = parts-fit c.args.key.now c.args.has_id c.or_empty-i.result c.or_empty-m.result c.choose.ensures c.then_some.ensures (key_fits _ _ _ (second-zero _ _ c.in_default.ensures.0)) }
 
 pub returns : goal.returns
 unfolding key_of
 returns c =
-    let lengths = ap₂ (λ (i m : List ℕ). key_number (length c.args.key.now) (length i) (length m)) c.or_empty-i.ensures c.or_empty-m.ensures in
-    let number = c.first-number.ensures ∙ ap₂ first c.keyed_number.ensures (c.key_number.ensures ∙ lengths) in
-    answer-taken _ _ number _ _ _ _ answer_of _ c.if-number-ne0.false
-    (rw (c.paid.ensures, c.key_share.ensures, c.onward.ensures, c.key_call.ensures, c.or_empty-i.ensures, c.or_empty-m.ensures, key-share))
+    let a = c.args in
+    let called = call-parts a.key.now a.has_id c.or_empty-i.result c.or_empty-m.result a.has_counter a.counter c.choose.ensures c.then_some.ensures c.then_some-2.ensures a.self.duplex c.key_call.result c.key_call.ensures in
+    let share = share-parts a.key.now a.has_id c.or_empty-i.result c.or_empty-m.result a.has_counter a.counter c.choose.ensures c.then_some.ensures c.then_some-2.ensures a.self.duplex c.key_share.result c.key_share.ensures in
+    rw (← c.or_empty-i.ensures, ← c.or_empty-m.ensures)
+    (answer-taken answer_of c.in_default.ensures.0 _ _ _ (rw (c.paid.ensures, share, c.onward.ensures, called)))

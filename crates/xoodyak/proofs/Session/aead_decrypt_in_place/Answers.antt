@@ -1,55 +1,32 @@
--- All but the last 16 bytes are decrypted where they lie; the tag squeezed then decides whether that stands or they become zero.
-use mathlib.Core.Path.{◌≡◌, refl, sym, ap, ap₂, ◌∙◌}
-use Prim.Native.Nat.{◌-◌}
+-- All but the last 16 bytes are opened where they lie, by the tag in those, which stays.
 use native.Mathlib.Omega.{arith}
-use lib.ListN.{length, take, length-append, length-drop, length-take}
-use lib.Seq.{length-take-le}
-use borrow.Author.Rules.{rules}
-use Rattle.xoodyak.specs.Numbers.{first}
-use Rattle.laws.proofs.Lists.{tail_of}
-use Rattle.xoodyak.specs.Calls.{Outcome, answer_of, open_in_place_of}
-use Rattle.xoodyak.proofs.Costs.{open-cost}
-use Rattle.xoodyak.proofs.Settle.{call-refused}
-use Rattle.xoodyak.proofs.Sealing.{long, zeroed, open-in-place, same, differs}
+use Rattle.xoodyak.specs.Calls.{answer_of, open_in_place_of}
+use Rattle.xoodyak.proofs.Settle.{call-taken, call-refused, tagged}
+use Rattle.xoodyak.proofs.Sealing.{opened-alike, opened-then}
 use Rattle.laws.proofs.Clauses.{as_value_and_in_out_after}
+use mathlib.Core.Path.{◌∙◌}
+use Prim.Native.Nat.{◌-◌}
+use lib.ListN.{length}
+use lib.Seq.{length-take-le}
 use Rattle.xoodyak.proofs.Session.aead_decrypt_in_place.Goals as goal
 
-pub returns-then-number-ne0 : goal.returns-then-number-ne0
+pub returns-in-Err : goal.returns-in-Err
 unfolding open_in_place_of
-returns-then-number-ne0 c =
-    let number = c.first-number.ensures ∙ ap₂ first c.keyed_number.ensures c.tail_number.ensures in
-    as_value_and_in_out_after (call-refused _ _ number _ c.args.self c.args.in_out.now _ answer_of _ c.if-number-ne0.true c.answer.ensures)
+returns-in-Err c = as_value_and_in_out_after (call-refused answer_of _ _ c.in-Err.ensures c.refused.ensures)
 
-pub overflow_sub-n : goal.overflow_sub-n
-overflow_sub-n c =
-    let number = c.first-number.ensures ∙ ap₂ first c.keyed_number.ensures c.tail_number.ensures in
-    let room = long c.args.self _ c.if-number-ne0.false _ number in
-    search rules
+pub overflow_sub-len : goal.overflow_sub-len
+overflow_sub-len c = tagged c.args.self _ c.in_default.ensures.0
 
-pub same_bytes-requires : goal.same_bytes-requires
-same_bytes-requires c =
-    let front : length c.decrypt_message-s.new.buf ≡ length c.args.in_out.now - 16 = c.decrypt_message-s.auto.buf ∙ length-take-le _ c.args.in_out.now (omega arith) in
-    let number = c.first-number.ensures ∙ ap₂ first c.keyed_number.ensures c.tail_number.ensures in
-    let room = long c.args.self _ c.if-number-ne0.false _ number in
-    simp (length-take, length-drop, length-append) (omega (arith, c.squeeze_tag-past.auto.out))
-
-pub returns-then-same_bytes : goal.returns-then-same_bytes
-returns-then-same_bytes c =
-    let number = c.first-number.ensures ∙ ap₂ first c.keyed_number.ensures c.tail_number.ensures in
-    let front : length c.decrypt_message-s.new.buf ≡ length c.args.in_out.now - 16 = c.decrypt_message-s.auto.buf ∙ length-take-le _ c.args.in_out.now (omega arith) in
-    let t = c.squeeze_tag-past in
-    let f = c.decrypt_message-s in
-    let outcome = open-in-place c.args.self f.result t.result (take (length c.args.in_out.now - 16) c.args.in_out.now) f.new.buf t.new.out _ c.same_bytes.result f.ensures.value f.ensures.buf_after t.ensures.value t.ensures.out_after c.same_bytes.ensures _ c.if-number-ne0.false c.args.in_out.now number refl (tail_of (length c.args.in_out.now - 16) f.new.buf c.args.in_out.now front) in
-    let e = same _ _ _ _ _ _ c.if-same_bytes.true outcome in
-    record { value = c.paid.ensures ∙ rw (open-cost c.args.self (take (length c.args.in_out.now - 16) c.args.in_out.now) _ _ (sym (length-take-le _ c.args.in_out.now (omega arith))) c.seal_share.ensures) (ap answer_of e); in_out_after = ap (λ (x : Outcome). x.bytes) e }
+pub open-requires : goal.open-requires
+open-requires c = omega (arith, tagged c.args.self _ c.in_default.ensures.0, c.split_at_mut-text.ensures.back_len)
 
 pub returns : goal.returns
-returns c =
-    let front : length c.decrypt_message-s.new.buf ≡ length c.args.in_out.now - 16 = c.decrypt_message-s.auto.buf ∙ length-take-le _ c.args.in_out.now (omega arith) in
-    let number = c.first-number.ensures ∙ ap₂ first c.keyed_number.ensures c.tail_number.ensures in
-    let t = c.squeeze_tag-past in
-    let f = c.decrypt_message-s in
-    let outcome = open-in-place c.args.self f.result t.result (take (length c.args.in_out.now - 16) c.args.in_out.now) f.new.buf t.new.out _ c.same_bytes.result f.ensures.value f.ensures.buf_after t.ensures.value t.ensures.out_after c.same_bytes.ensures _ c.if-number-ne0.false c.args.in_out.now number refl (tail_of (length c.args.in_out.now - 16) f.new.buf c.args.in_out.now front) in
-    let e = differs _ _ _ _ _ _ c.if-same_bytes.false outcome in
-    let k = c.clear in
-    record { value = c.paid-2.ensures ∙ rw (open-cost c.args.self (take (length c.args.in_out.now - 16) c.args.in_out.now) _ _ (sym (length-take-le _ c.args.in_out.now (omega arith))) c.seal_share-2.ensures) (ap answer_of e); in_out_after = zeroed (length c.args.in_out.now - 16) c.decrypt_message-s.new.buf c.args.in_out.now k.new.buf front k.ensures ∙ ap (λ (x : Outcome). x.bytes) e }
+unfolding open_in_place_of
+returns c = let s = c.args.self in
+    let parts = c.split_at_mut-text.ensures in
+    let f = c.open.ensures in
+    let b = c.args.in_out.now in
+    let front = length-take-le (length b - 16) b (omega arith) in
+    as_value_and_in_out_after (call-taken answer_of c.in_default.ensures.0 _ _ _
+    (f.value ∙ rw (parts.front, parts.back) (opened-alike s _ _ _ _ _ _))
+    (rw (f.text_after, parts.front, parts.back) (opened-then s _ _ _ _ _ ∙ rw front)))

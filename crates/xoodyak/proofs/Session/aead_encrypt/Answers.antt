@@ -1,42 +1,38 @@
--- The message is copied and encrypted at the front, and the tag squeezed into the 16 bytes after it.
-use mathlib.Core.Path.{refl, sym, ap, ap₂, ◌∙◌}
-use Prim.Native.Nat.{◌+◌, ◌≤◌}
+-- The message is copied and sealed at the front, with the tag in the 16 bytes after it.
 use native.Mathlib.Omega.{arith}
-use lib.ListN.{length, take}
 use borrow.Author.Rules.{rules}
-use Rattle.xoodyak.specs.Numbers.{first}
-use Rattle.xoodyak.specs.Calls.{Outcome, answer_of, seal_of}
-use Rattle.xoodyak.proofs.Costs.{seal-cost}
-use Rattle.xoodyak.proofs.Settle.{room-refused, copied-front}
-use Rattle.xoodyak.proofs.Sealing.{fits, seal-copy}
+use Rattle.xoodyak.specs.Calls.{answer_of, seal_of}
+use Rattle.xoodyak.proofs.Settle.{call-taken, call-refused, roomy}
+use Rattle.laws.proofs.Clauses.{as_value_and_out_after}
+use lib.Seq.{drop-drop}
+use mathlib.Core.Path.{◌∙◌}
+use Prim.Native.Nat.{◌≤◌}
+use lib.ListN.{length}
+use lib.Seq.{length-take-le}
 use Rattle.xoodyak.proofs.Session.aead_encrypt.Goals as goal
 
-pub returns-then-number-ne0 : goal.returns-then-number-ne0
+pub returns-in-Err : goal.returns-in-Err
 unfolding seal_of
-returns-then-number-ne0 c =
-    let number = c.first-number.ensures ∙ ap₂ first c.keyed_number-keyed.ensures c.room_number-room.ensures in
-    let e = room-refused _ _ _ _ _ number c.missing.ensures c.args.self c.args.out.now _ c.if-number-ne0.true ∙ ap (seal_of c.args.self c.args.out.now) c.or_empty-m.ensures in
-    record { value = c.short_answer.ensures ∙ ap answer_of e; out_after = ap (λ (x : Outcome). x.bytes) e }
+returns-in-Err c = as_value_and_out_after (rw (← c.or_empty-m.ensures) (call-refused answer_of _ _ c.in-Err.ensures c.refused.ensures))
 
-pub copy_into-requires : goal.copy_into-requires
-copy_into-requires c =
-    let number = c.first-number.ensures ∙ ap₂ first c.keyed_number-keyed.ensures c.room_number-room.ensures in
-    let room : length c.or_empty-m.result.now + 16 ≤ length c.args.out.now = fits c.args.self _ c.if-number-ne0.false _ _ number in
-    omega arith
+pub split_at_mut-text-requires : goal.split_at_mut-text-requires
+split_at_mut-text-requires c = omega (arith, roomy c.args.self _ _ c.in_default.ensures.0)
 
-pub slice_bounds-squeeze_tag-end : goal.slice_bounds-squeeze_tag-end
-slice_bounds-squeeze_tag-end c =
-    let number = c.first-number.ensures ∙ ap₂ first c.keyed_number-keyed.ensures c.room_number-room.ensures in
-    let room : length c.or_empty-m.result.now + 16 ≤ length c.args.out.now = fits c.args.self _ c.if-number-ne0.false _ _ number in
+pub slice_bounds-seal-end : goal.slice_bounds-seal-end
+slice_bounds-seal-end c = omega (arith, roomy c.args.self _ _ c.in_default.ensures.0, c.split_at_mut-text.ensures.back_len)
+
+pub slice_bounds-seal-end-2 : goal.slice_bounds-seal-end-2
+slice_bounds-seal-end-2 c =
+    let rest : 16 ≤ length c.split_at_mut-text.result.1.now = omega (arith, roomy c.args.self _ _ c.in_default.ensures.0, c.split_at_mut-text.ensures.back_len) in
     search rules
 
+pub seal-requires : goal.seal-requires
+seal-requires c = length-take-le 16 c.split_at_mut-text.result.1.now (omega (arith, roomy c.args.self _ _ c.in_default.ensures.0, c.split_at_mut-text.ensures.back_len))
+
 pub returns : goal.returns
-returns c =
-    let number = c.first-number.ensures ∙ ap₂ first c.keyed_number-keyed.ensures c.room_number-room.ensures in
-    let front = c.encrypt_message-s.auto.buf ∙ ap length (copied-front c.or_empty-m.result.now c.args.out.now _ c.copy_into.ensures) in
-    let t = c.squeeze_tag in
-    let f = c.encrypt_message-s in
-    let w = c.copy_into in
-    let e = seal-copy c.args.self f.result t.result (take (length c.or_empty-m.result.now) w.new.dst) f.new.buf t.new.out f.ensures.value f.ensures.buf_after t.ensures.value t.ensures.out_after _ c.if-number-ne0.false c.args.out.now c.or_empty-m.result.now w.new.dst number w.ensures refl front
-    ∙ ap (seal_of c.args.self c.args.out.now) c.or_empty-m.ensures in
-    record { value = c.paid.ensures ∙ rw (seal-cost c.args.self (take (length c.or_empty-m.result.now) w.new.dst) _ _ (sym (ap length (copied-front c.or_empty-m.result.now c.args.out.now w.new.dst w.ensures))) c.seal_share.ensures) (ap answer_of e); out_after = ap (λ (x : Outcome). x.bytes) e }
+unfolding seal_of
+returns c = let parts = c.split_at_mut-text.ensures in
+    let f = c.seal.ensures in
+    let w = c.copy_from_slice.ensures.after in
+    as_value_and_out_after (rw (← c.or_empty-m.ensures)
+    (call-taken answer_of c.in_default.ensures.0 _ _ _ (f.value ∙ rw w) (rw (f.text_after, f.tag_after, w, parts.back, drop-drop 16 (length c.or_empty-m.result.now) c.args.out.now))))

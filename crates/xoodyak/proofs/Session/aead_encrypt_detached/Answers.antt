@@ -1,34 +1,34 @@
--- The message is copied and encrypted at the front, and the tag squeezed into an array of its own.
-use mathlib.Core.Path.{refl, sym, ap, ap₂, ◌∙◌}
-use Prim.Native.Nat.{◌≤◌}
+-- The message is copied and sealed at the front, with the tag in an array of its own.
 use native.Mathlib.Omega.{arith}
-use lib.ListN.{length, take}
-use Rattle.xoodyak.specs.Numbers.{first}
-use Rattle.xoodyak.specs.Calls.{Outcome, sealed_of, seal_detached_of}
-use Rattle.xoodyak.proofs.Costs.{seal-cost}
-use Rattle.xoodyak.proofs.Settle.{room-refused, copied-front}
-use Rattle.xoodyak.proofs.Sealing.{fits, seal-detached}
+use lib.ListN.{length-take}
+use mathlib.Core.Path.{◌∙◌}
+use borrow.Author.Rules.{rules}
+use Rattle.xoodyak.specs.Calls.{sealed_of, seal_detached_of}
+use Rattle.xoodyak.proofs.Settle.{call-taken, call-refused, roomy}
+use Rattle.laws.proofs.Clauses.{as_value_and_out_after}
 use Rattle.xoodyak.proofs.Session.aead_encrypt_detached.Goals as goal
 
-pub returns-then-number-ne0 : goal.returns-then-number-ne0
+pub returns-in-Err : goal.returns-in-Err
 unfolding seal_detached_of
-returns-then-number-ne0 c =
-    let number = c.first-number.ensures ∙ ap₂ first c.keyed_number.ensures c.room_number.ensures in
-    let e = room-refused _ _ _ _ _ number c.missing.ensures c.args.self c.args.out.now _ c.if-number-ne0.true ∙ ap (seal_detached_of c.args.self c.args.out.now) c.or_empty-m.ensures in
-    record { value = c.sealed.ensures ∙ rw c.from_bytes.ensures (ap sealed_of e); out_after = ap (λ (x : Outcome). x.bytes) e }
+returns-in-Err c =
+    as_value_and_out_after (rw (← c.or_empty-m.ensures) (call-refused sealed_of _ _ c.in-Err.ensures (c.sealed.ensures ∙ rw (c.refused.ensures, c.default.ensures))))
 
-pub copy_into-requires : goal.copy_into-requires
-copy_into-requires c =
-    let number = c.first-number.ensures ∙ ap₂ first c.keyed_number.ensures c.room_number.ensures in
-    let room : length c.or_empty-m.result.now ≤ length c.args.out.now = fits c.args.self _ c.if-number-ne0.false _ _ number in
-    omega arith
+pub slice_bounds-text-end : goal.slice_bounds-text-end
+slice_bounds-text-end c = roomy c.args.self _ _ c.in_default.ensures.0
+
+pub slice_bounds-text-end-2 : goal.slice_bounds-text-end-2
+slice_bounds-text-end-2 c =
+    let room = roomy c.args.self _ _ c.in_default.ensures.0 in
+    search rules
+
+pub copy_from_slice-requires : goal.copy_from_slice-requires
+copy_from_slice-requires c =
+    let room = roomy c.args.self _ _ c.in_default.ensures.0 in
+    simp length-take (omega arith)
 
 pub returns : goal.returns
-returns c =
-    let number = c.first-number.ensures ∙ ap₂ first c.keyed_number.ensures c.room_number.ensures in
-    let t = c.squeeze_tag-t in
-    let f = c.encrypt_message-s in
-    let w = c.copy_into in
-    let e = seal-detached c.args.self f.result t.result (take (length c.or_empty-m.result.now) w.new.dst) f.new.buf t.new.out f.ensures.value f.ensures.buf_after t.ensures.value t.ensures.out_after _ c.if-number-ne0.false c.args.out.now c.or_empty-m.result.now w.new.dst number w.ensures refl
-    ∙ ap (seal_detached_of c.args.self c.args.out.now) c.or_empty-m.ensures in
-    record { value = c.sealed-2.ensures ∙ rw (c.from_bytes-2.ensures, seal-cost c.args.self (take (length c.or_empty-m.result.now) w.new.dst) _ _ (sym (ap length (copied-front c.or_empty-m.result.now c.args.out.now w.new.dst w.ensures))) c.seal_share.ensures) (ap sealed_of e); out_after = ap (λ (x : Outcome). x.bytes) e }
+unfolding seal_detached_of
+returns c = let f = c.seal.ensures in
+    let w = c.copy_from_slice.ensures.after in
+    as_value_and_out_after (rw (← c.or_empty-m.ensures)
+    (call-taken sealed_of c.in_default.ensures.0 _ _ _ (c.sealed-2.ensures ∙ rw (c.from_bytes.ensures, f.value, f.tag_after, w)) (rw (f.text_after, w))))

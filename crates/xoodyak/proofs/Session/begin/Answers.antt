@@ -4,10 +4,10 @@ use Rattle.xoodyak.specs.Feed.{begin_of}
 use Rattle.xoodyak.proofs.Settle.{answer-taken, answer-refused}
 use Rattle.xoodyak.proofs.Session.begin.Goals as goal
 
-pub returns-then-number-ne0 : goal.returns-then-number-ne0
+pub returns-in-Err : goal.returns-in-Err
 unfolding begin_of
-returns-then-number-ne0 c = answer-refused _ _ c.keyed_number-number.ensures _ _ _ _ answer_of _ c.if-number-ne0.true c.answer.ensures
+returns-in-Err c = answer-refused answer_of _ _ c.in-Err.ensures c.refused.ensures
 
 pub returns : goal.returns
 unfolding begin_of
-returns c = answer-taken _ _ c.keyed_number-number.ensures _ _ _ _ answer_of _ c.if-number-ne0.false c.answer-2.ensures
+returns c = answer-taken answer_of c.in_default.ensures.0 _ _ _ c.paid.ensures

@@ -1,29 +1,22 @@
 -- Refused with a fresh Hash session where the lengths are too much; otherwise the key call on a fresh Keyed one.
-use mathlib.Core.Path.{ap₂, sym, ◌∙◌}
-use mathlib.Core.List.{List}
-use Prim.Native.Nat.{ℕ}
-use lib.ListN.{length}
-use Rattle.xoodyak.specs.Numbers.{key_number}
 use Rattle.xoodyak.specs.Calls.{answer_of, new_of}
-use Rattle.xoodyak.proofs.Costs.{key-share}
+use Rattle.xoodyak.proofs.Costs.{call-parts, share-parts, parts-fit}
 use Rattle.xoodyak.proofs.Settle.{answer-taken, answer-refused, key_fits}
 use Rattle.xoodyak.proofs.Session.new.Goals as goal
 
-pub returns-then-number-ne0 : goal.returns-then-number-ne0
+pub returns-in-Err : goal.returns-in-Err
 unfolding new_of
-returns-then-number-ne0 c =
-    let number = c.key_number-number.ensures ∙ ap₂ (λ (i m : List ℕ). key_number (length c.args.key.now) (length i) (length m)) c.or_empty-i.ensures c.or_empty-m.ensures in
-    answer-refused _ _ number _ _ _ _ answer_of _ c.if-number-ne0.true (rw (c.answer.ensures, c.hash-refused.ensures))
+returns-in-Err c = rw (← c.or_empty-i.ensures, ← c.or_empty-m.ensures, ← c.hash-unkeyed.ensures) (answer-refused answer_of _ _ c.in-Err.ensures c.refused.ensures)
 
-pub key_call-requires : goal.key_call-requires
-key_call-requires c = key_fits _ _ _ (sym c.key_number-number.ensures ∙ c.if-number-ne0.false)
-
-pub key_share-requires : goal.key_share-requires
-key_share-requires c = key_fits _ _ _ (sym c.key_number-number.ensures ∙ c.if-number-ne0.false)
+pub invariant_of-parts : goal.invariant_of-parts
+invariant_of-parts c =
+    record { fits = parts-fit c.args.key.now c.args.has_id c.or_empty-i.result c.or_empty-m.result c.choose.ensures c.then_some.ensures (key_fits _ _ _ c.in_default.ensures.0) }
 
 pub returns : goal.returns
 unfolding new_of
 returns c =
-    let number = c.key_number-number.ensures ∙ ap₂ (λ (i m : List ℕ). key_number (length c.args.key.now) (length i) (length m)) c.or_empty-i.ensures c.or_empty-m.ensures in
-    answer-taken _ _ number _ _ _ _ answer_of _ c.if-number-ne0.false
-    (rw (c.paid.ensures, c.key_share.ensures, c.onward.ensures, c.key_call.ensures, c.fresh-d.ensures, c.hash-refused.ensures, c.or_empty-i.ensures, c.or_empty-m.ensures, key-share))
+    let a = c.args in
+    let called = call-parts a.key.now a.has_id c.or_empty-i.result c.or_empty-m.result a.has_counter a.counter c.choose.ensures c.then_some.ensures c.then_some-2.ensures c.fresh-d.result c.key_call.result c.key_call.ensures in
+    let share = share-parts a.key.now a.has_id c.or_empty-i.result c.or_empty-m.result a.has_counter a.counter c.choose.ensures c.then_some.ensures c.then_some-2.ensures c.fresh-d.result c.key_share.result c.key_share.ensures in
+    rw (← c.or_empty-i.ensures, ← c.or_empty-m.ensures, ← c.hash-unkeyed.ensures)
+    (answer-taken answer_of c.in_default.ensures.0 _ _ _ (rw (c.paid.ensures, share, c.onward.ensures, called, c.fresh-d.ensures, c.hash-unkeyed.ensures)))

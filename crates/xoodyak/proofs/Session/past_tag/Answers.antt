@@ -5,6 +5,6 @@ use Rattle.xoodyak.proofs.Session.past_tag.Goals as goal
 
 pub returns : goal.returns
 unfolding ended past_tag
-returns c = let s = c.squeeze_any-after in
+returns c = let s = c.squeeze_any-duplex in
     let l = c.requires in
     record { value = rw (c.idle.ensures, s.ensures.value, c.end_block.ensures, l); out_after = s.ensures.out_after ∙ rw (c.end_block.ensures, l) }

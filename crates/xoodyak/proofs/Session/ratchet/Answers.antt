@@ -4,13 +4,13 @@ use Rattle.xoodyak.proofs.Settle.{answer-taken, answer-refused, keyed-mode}
 use Rattle.xoodyak.proofs.Costs.{ratchet-share}
 use Rattle.xoodyak.proofs.Session.ratchet.Goals as goal
 
-pub returns-then-number-ne0 : goal.returns-then-number-ne0
+pub returns-in-Err : goal.returns-in-Err
 unfolding ratchet_of
-returns-then-number-ne0 c = answer-refused _ _ c.keyed_number-number.ensures _ _ _ _ answer_of _ c.if-number-ne0.true c.answer.ensures
+returns-in-Err c = answer-refused answer_of _ _ c.in-Err.ensures c.refused.ensures
 
 pub returns : goal.returns
 unfolding ratchet_of
 returns c =
-    let k = c.keyed_number-number in
-    answer-taken _ _ k.ensures _ _ _ _ answer_of _ c.if-number-ne0.false
-    (rw (c.paid.ensures, c.onward.ensures, c.ratchet.ensures, ratchet-share c.args.self.duplex (keyed-mode c.args.self _ k.ensures c.if-number-ne0.false)))
+    let z = c.in_default.ensures.0 in
+    answer-taken answer_of z _ _ _
+    (rw (c.paid.ensures, c.onward.ensures, c.ratchet.ensures, ratchet-share c.args.self.duplex (keyed-mode c.args.self z)))

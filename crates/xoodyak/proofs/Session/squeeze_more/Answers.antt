@@ -6,13 +6,13 @@ use Rattle.xoodyak.proofs.Costs.{squeeze-more-share}
 use Rattle.laws.proofs.Clauses.{as_value_and_out_after}
 use Rattle.xoodyak.proofs.Session.squeeze_more.Goals as goal
 
-pub returns-then-number-ne0 : goal.returns-then-number-ne0
+pub returns-in-Err : goal.returns-in-Err
 unfolding squeeze_more_of
-returns-then-number-ne0 c = as_value_and_out_after (call-refused _ _ c.unfinished_number-number.ensures _ _ _ _ answer_of _ c.if-number-ne0.true c.answer.ensures)
+returns-in-Err c = as_value_and_out_after (call-refused answer_of _ _ c.in-Err.ensures c.refused.ensures)
 
 pub returns : goal.returns
 unfolding squeeze_more_of
 returns c = as_value_and_out_after (let f = c.squeeze_more in
     let a = c.args in
-    call-taken _ _ c.unfinished_number-number.ensures _ _ _ _ answer_of _ _ c.if-number-ne0.false
+    call-taken answer_of c.in_default.ensures.0 _ _ _
     (rw (c.paid.ensures, c.block_count.ensures, c.squeeze_rate.ensures, c.onward.ensures, f.ensures.value, squeeze-more-share a.self.duplex (length a.out.now), f.auto.out)) f.ensures.out_after)

@@ -3,13 +3,13 @@ use Rattle.xoodyak.specs.Feed.{end_ups}
 use Rattle.xoodyak.proofs.Feeding.{ups-later}
 use Rattle.xoodyak.proofs.feed.end_ups.Goals as goal
 
-pub returns-in-Crate : goal.returns-in-Crate
+pub returns-in-0-Crate : goal.returns-in-0-Crate
 unfolding end_ups
-returns-in-Crate c = rw (c.if-place-eq0.true, c.in-Crate.is)
+returns-in-0-Crate c = rw (c.in-0-Crate.is-0, c.in-0-Crate.is-1)
 
-pub returns-in-Specification : goal.returns-in-Specification
+pub returns-in-0-Specification : goal.returns-in-0-Specification
 unfolding end_ups
-returns-in-Specification c = rw (c.if-place-eq0.true, c.in-Specification.is)
+returns-in-0-Specification c = rw (c.in-0-Specification.is-0, c.in-0-Specification.is-1)
 
-pub returns : goal.returns
-returns c = ups-later _ _ c.if-place-eq0.false
+pub returns-in_default : goal.returns-in_default
+returns-in_default c = ups-later _ _ c.in_default.is-0.1

@@ -1,10 +1,7 @@
--- None for no bytes; else the last byte stands in the last block.
-use native.Mathlib.Omega.{arith}
-use Rattle.xoodyak.proofs.Costs.{count-is, count_none}
+-- The library's quotient, rounded up.
+use mathlib.Core.Path.{◌∙◌}
+use Rattle.xoodyak.proofs.Costs.{ceil-is}
 use Rattle.xoodyak.proofs.shares.block_count.Goals as goal
 
-pub returns-then-n-eq0 : goal.returns-then-n-eq0
-returns-then-n-eq0 c = count_none _ _ c.if-n-eq0.true
-
 pub returns : goal.returns
-returns c = count-is _ _ (omega arith)
+returns c = c.div_ceil.ensures ∙ ceil-is _ _ c.requires

@@ -5,4 +5,4 @@ use Rattle.xoodyak.proofs.BlockWords.{one-first}
 use Rattle.xoodyak.proofs.words.next_words.Goals as goal
 
 pub returns : goal.returns
-returns c = c.permute_words.ensures ∙ ap xoodoo (c.add4.ensures ∙ one-first (to_bytes c.args.v))
+returns c = c.permute_words.ensures ∙ ap xoodoo (c.add.ensures ∙ one-first (to_bytes c.args.v))

@@ -1,8 +1,6 @@
--- Four words fill the 16 bytes.
-use native.Mathlib.Omega.{arith}
-use Rattle.xoodoo.proofs.BlockBytes.{put-plane}
+-- Four words, one after the other.
+use Rattle.xoodoo.proofs.Bytes.{stored-plane}
 use Rattle.xoodyak.proofs.words.put16.Goals as goal
 
 pub returns : goal.returns
-returns c =
-    let a = c.args in cc (put-plane a.b.now a.p (omega arith))
+returns c = let a = c.args in cc (stored-plane a.b.now a.at a.p)

@@ -11,4 +11,4 @@ unfolding open_block up up_bytes
 returns-then-place-eq0 c = ap xoodoo c.coloured.ensures ∙ rw c.if-place-eq0.true
 
 pub returns : goal.returns
-returns c = ap xoodoo (c.pad24.ensures ∙ rw c.to_words.ensures) ∙ sym (open-later _ _ c.requires c.if-place-eq0.false)
+returns c = ap xoodoo (c.pad.ensures ∙ rw c.to_words.ensures) ∙ sym (open-later _ _ c.requires c.if-place-eq0.false)

@@ -13,8 +13,8 @@ use Rattle.xoodyak.proofs.cyclist.Duplex.decrypt_blocks.Given as goal
 abbrev pub invariant-loop-i : goal.invariant-loop-i
 invariant-loop-i l =
     (l.i ≤ length l.initial.buf) × (length l.buf ≡ length l.initial.buf)
-    × (dec_end (cuts 24 (drop l.i l.buf)) 0 (held Down l.mode (to_bytes l.v)) ≡ dec_end (cuts 24 l.initial.buf) 0 (held Down l.mode (to_bytes l.initial.v)))
-    × (take l.i l.buf ++ dec_out (cuts 24 (drop l.i l.buf)) 0 (held Down l.mode (to_bytes l.v)) ≡ dec_out (cuts 24 l.initial.buf) 0 (held Down l.mode (to_bytes l.initial.v)))
+    × (dec_end (cuts 24 (drop l.i l.buf)) 0 (held Down l.fn.self.mode (to_bytes l.v)) ≡ dec_end (cuts 24 l.initial.buf) 0 (held Down l.fn.self.mode (to_bytes l.initial.v)))
+    × (take l.i l.buf ++ dec_out (cuts 24 (drop l.i l.buf)) 0 (held Down l.fn.self.mode (to_bytes l.v)) ≡ dec_out (cuts 24 l.initial.buf) 0 (held Down l.fn.self.mode (to_bytes l.initial.v)))
 
 abbrev pub decreases-loop-i : goal.decreases-loop-i
 decreases-loop-i l = length l.initial.buf - l.i

@@ -4,13 +4,13 @@ use Rattle.xoodyak.specs.Feed.{end_block}
 use Rattle.xoodyak.proofs.Feeding.{end_later}
 use Rattle.xoodyak.proofs.cyclist.Duplex.end_block.Goals as goal
 
-pub returns-in-Crate : goal.returns-in-Crate
+pub returns-in-0-Crate : goal.returns-in-0-Crate
 unfolding end_block
-returns-in-Crate c = rw (c.if-place-eq0.true, c.in-Crate.is)
+returns-in-0-Crate c = rw (c.in-0-Crate.is-0, c.in-0-Crate.is-1)
 
-pub returns-in-Specification : goal.returns-in-Specification
+pub returns-in-0-Specification : goal.returns-in-0-Specification
 unfolding end_block
-returns-in-Specification c = c.empty_block.ensures ∙ rw (c.if-place-eq0.true, c.in-Specification.is)
+returns-in-0-Specification c = c.empty_block.ensures ∙ rw (c.in-0-Specification.is-0, c.in-0-Specification.is-1)
 
-pub returns : goal.returns
-returns c = c.close_block.ensures ∙ sym (end_later _ _ _ c.if-place-eq0.false)
+pub returns-in_default : goal.returns-in_default
+returns-in_default c = c.close_block.ensures ∙ sym (end_later _ _ _ c.in_default.is-0.1)

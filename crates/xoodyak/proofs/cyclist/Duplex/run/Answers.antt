@@ -1,10 +1,9 @@
 -- The bytes from the place on are added to the piece in the output, and the plaintext to those bytes.
 use mathlib.Core.Path.{◌≡◌, refl, sym, ap, ◌∙◌}
-use mathlib.Core.List.{List, ◌++◌, append-nil}
+use mathlib.Core.List.{List}
 use Prim.Native.Nat.{ℕ, ◌+◌, ◌≤◌}
 use native.Mathlib.Omega.{arith}
-use lib.ListN.{length, drop, drop_of_length-le}
-use Rattle.laws.specs.Lists.{add_front}
+use lib.ListN.{length}
 use Rattle.xoodyak.specs.declared.feed.Kind.{Kind}
 use Rattle.xoodyak.specs.declared.feed.Kind.TheVariants.{Seal, Open}
 use Rattle.xoodyak.proofs.Runs.{text, part_out, part_end}
@@ -14,17 +13,12 @@ use Rattle.xoodyak.proofs.cyclist.Duplex.run.Goals as goal
 told : (k kind : Kind) (x r y : List ℕ) → kind ≡ k → y ≡ text k x r → y ≡ text kind x r
 told k kind x r y e h = h ∙ ap (λ (j : Kind). text j x r) (sym e)
 
--- no more was lent than the piece, so the copy is the piece
-written : (x o d r y : List ℕ) → length o ≤ length x → d ≡ x ++ drop (length x) o → y ≡ add_front d r → y ≡ add_front x r
-written x o d r y n ed ey =
-    ey ∙ ap (λ (l : List ℕ). add_front l r) (ed ∙ ap (λ (l : List ℕ). x ++ l) (drop_of_length-le o n) ∙ append-nil x)
-
 pub returns-in-Seal : goal.returns-in-Seal
 returns-in-Seal c =
     let a = c.args in
     let l : length a.self.st ≡ 48 = search rules in
     let inside : a.place + length a.piece.now ≤ length a.self.st = omega (arith, c.requires.1) in
-    let wrote = written a.piece.now a.out.now _ _ _ (omega (arith, c.requires.0)) c.copy_into.ensures c.xor_into.ensures in
+    let wrote = c.xor_into.ensures ∙ rw c.copy_from_slice.ensures.after in
     record {
       value = part_end _ a.place _ a.self a.piece.now refl inside (told Seal _ _ _ a.piece.now c.in-Seal.is refl) c.xor_into-in-Seal.ensures;
       out_after = part_out _ a.place _ a.self a.piece.now refl inside wrote;
@@ -35,7 +29,7 @@ returns-in-Open c =
     let a = c.args in
     let l : length a.self.st ≡ 48 = search rules in
     let inside : a.place + length a.piece.now ≤ length a.self.st = omega (arith, c.requires.1) in
-    let wrote = written a.piece.now a.out.now _ _ _ (omega (arith, c.requires.0)) c.copy_into.ensures c.xor_into.ensures in
+    let wrote = c.xor_into.ensures ∙ rw c.copy_from_slice.ensures.after in
     record {
       value = part_end _ a.place _ a.self a.piece.now refl inside (told Open _ _ _ _ c.in-Open.is wrote) c.xor_into-in-Open.ensures;
       out_after = part_out _ a.place _ a.self a.piece.now refl inside wrote;

@@ -5,11 +5,10 @@ use Prim.Native.Nat.{◌-◌, ◌≤◌, min}
 use native.Mathlib.Omega.{arith}
 use lib.ListN.{length, take, drop, length-append, length-drop, length-take}
 use lib.Seq.{length-take-le}
-use Rattle.laws.specs.Blocks.{sizes}
 use Rattle.laws.proofs.Blocks.{sizes-zero}
 use Rattle.laws.proofs.Lists.{whole, put-front-tail}
 use Rattle.xoodoo.specs.Xoodoo.{to_bytes, xoodoo}
-use Rattle.xoodyak.specs.Cyclist.{squeeze_rate, up, up_bytes, nexts_end, nexts_out, squeeze_more_end, squeeze_more_out}
+use Rattle.xoodyak.specs.Cyclist.{squeeze_rate, up, up_bytes, nexts_out, squeeze_more_end, squeeze_more_out}
 use Rattle.xoodyak.specs.declared.cyclist.Phase.TheVariants.{Up}
 use Rattle.xoodyak.proofs.BlockWords.{held}
 use Rattle.xoodyak.proofs.Turns.{nexts-done-end, squeeze-out-is, squeeze-end-is}
@@ -22,7 +21,7 @@ returns-then-k-n c =
     let f = c.write_front in
     let a = c.args in
     let n = length a.out.now in
-    let k = c.least-k.result in
+    let k = c.min-k.result in
     let r = squeeze_rate a.self.mode in
     let t = held Up a.self.mode (to_bytes c.permute_words-v.result) in
     let e : k ≡ min r n = omega arith in
@@ -36,15 +35,14 @@ returns-then-k-n c =
     let none : take k t.st ++ squeeze_more_out t (n - k) ≡ take k t.st = rw (sizes-zero r (n - k) z) (append-nil _) in record { value = c.after_up.ensures ∙ sym (nexts-done-end r n k t h) ∙ squeeze-end-is a.self t n k (n - k) a.cu e refl words; out_after = front ∙ ef ∙ sym none ∙ squeeze-out-is a.self t n k (n - k) a.cu e refl words }
 
 pub returns : goal.returns
-unfolding squeeze_more_end squeeze_more_out up up_bytes
+unfolding up up_bytes
 returns c =
     let words = ap (held Up c.args.self.mode) (c.permute_words-v.ensures ∙ ap xoodoo c.coloured.ensures) in
     let b = c.squeeze_words in
     let f = c.write_front in
     let a = c.args in
     let n = length a.out.now in
-    let k = c.least-k.result in
-    let r = c.squeeze_rate-rate in
+    let k = c.min-k.result in
     let m = a.self.mode in
     let t = held Up m (to_bytes c.permute_words-v.result) in
     let w = f.new.out ++ drop k a.out.now in
@@ -54,7 +52,7 @@ returns c =
     let d = length (take (length w - k) (drop k w)) in
     let em : d ≡ n - k = simp (length-take, length-drop, length-append) (omega arith) in
     let e : k ≡ min (squeeze_rate m) n = omega arith in record {
-      value = c.after_up-2.ensures ∙ b.ensures.phase_value m ∙ ap (λ q. nexts_end (sizes q d) t) r.ensures ∙ squeeze-end-is a.self t n k d a.cu e em words;
+      value = c.after_up-2.ensures ∙ b.ensures.value ∙ squeeze-end-is a.self t n k d a.cu e em words;
       out_after = put-front-tail k f.new.out a.out.now b.new.out lf
-          ∙ rw (ef, b.ensures.out_after m, r.ensures) (squeeze-out-is a.self t n k d a.cu e em words);
+          ∙ rw (ef, b.ensures.out_after) (squeeze-out-is a.self t n k d a.cu e em words);
     }

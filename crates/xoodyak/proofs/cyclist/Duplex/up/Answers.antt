@@ -6,11 +6,11 @@ use Rattle.xoodyak.specs.Cyclist.{up, up_bytes}
 use Rattle.xoodyak.specs.declared.cyclist.Phase.TheVariants.{Up}
 use Rattle.xoodyak.proofs.BlockWords.{held}
 use Rattle.xoodyak.proofs.cyclist.Duplex.up.Goals as goal
-use Rattle.xoodyak.proofs.cyclist.Duplex.up.Goals.{in-Hash, in-Keyed}
+use Rattle.xoodyak.proofs.cyclist.Duplex.up.Goals.{in-Keyed, in_default}
 
 pub returns : goal.returns
 unfolding up up_bytes ◌⊕◌
 returns c =
-    let a = c.args in
-    ap (held Up a.self.mode)
-    (c.permute_bytes.ensures ∙ ap xoodoo (elim c.match-mode.branch [ in-Hash w ↦ w.st-is ∙ rw w.in-Hash.is | in-Keyed w ↦ w.st-is ∙ rw w.in-Keyed.is ]))
+    ap (held Up c.args.self.mode)
+    (c.permute_bytes.ensures
+    ∙ ap xoodoo (elim c.match-mode.branch [ in-Keyed w ↦ w.st-is ∙ rw w.in-Keyed.is | in_default w ↦ w.st-is ∙ rw w.in_default.is ]))

@@ -1,9 +1,0 @@
--- After i turns dst is the front i bytes of src, then what dst held past them; a turn copies one byte more.
-use native.Mathlib.Numerals.{add-one}
-use native.Mathlib.Omega.{arith}
-use lib.ListN.{length-set}
-use Rattle.laws.proofs.Lists.{copy_step}
-use Rattle.xoodyak.proofs.bytes.copy_into.Goals as goal
-
-pub loop-i-preserved : goal.loop-i-preserved
-loop-i-preserved c = (omega arith, rw (add-one, c.loop-i.invariant.1) (copy_step c.args.dst.now c.args.src.now c.loop-i.i (omega arith) (omega arith)), simp length-set (omega arith))

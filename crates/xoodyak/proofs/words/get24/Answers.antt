@@ -1,9 +1,0 @@
--- Six words, one after the other.
-use native.Mathlib.Omega.{arith}
-use Rattle.xoodoo.proofs.BlockBytes.{six-of}
-use Rattle.xoodyak.proofs.words.get24.Goals as goal
-
-pub returns : goal.returns
-returns c =
-    six-of c.args.b.now _ (omega arith) c.get4.ensures c.get4-2.ensures c.get4-3.ensures
-    c.get4-4.ensures c.get4-5.ensures c.get4-6.ensures

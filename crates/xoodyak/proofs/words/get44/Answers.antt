@@ -1,9 +1,0 @@
--- Two planes and three words, one after the other.
-use native.Mathlib.Omega.{arith}
-use Rattle.xoodoo.proofs.BlockBytes.{eleven-of}
-use Rattle.xoodyak.proofs.words.get44.Goals as goal
-
-pub returns : goal.returns
-returns c =
-    eleven-of c.args.b.now _ (omega arith) c.get16.ensures c.get16-2.ensures c.get4.ensures
-    c.get4-2.ensures c.get4-3.ensures

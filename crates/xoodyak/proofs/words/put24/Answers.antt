@@ -1,8 +1,0 @@
--- Six words fill the 24 bytes.
-use native.Mathlib.Omega.{arith}
-use Rattle.xoodoo.proofs.BlockBytes.{put_six}
-use Rattle.xoodyak.proofs.words.put24.Goals as goal
-
-pub returns : goal.returns
-returns c =
-    let a = c.args in cc (put_six a.b.now a.s (omega arith))
