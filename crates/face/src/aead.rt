@@ -16,51 +16,25 @@ pub fn aead_encrypt_detached(
 ) -> SealReply
     ensures { (result ≡ seal_reply_of (seal_detached_of s.old out.old (given has_bin bin.now))) × ((s.new ≡ (seal_detached_of s.old out.old (given has_bin bin.now)).session) × (out.new ≡ (seal_detached_of s.old out.old (given has_bin bin.now)).bytes)) }
 {
-    let a = Session::aead_encrypt_detached(*s, out, has_bin, bin);
-    *s = a.session;
-    SealReply {
-        number: a.number,
-        missing: a.missing,
-        tag: a.tag,
-        spent: a.spent,
-    }
+    SealReply::stored(s.aead_encrypt_detached(out, has_bin, bin), s)
 }
 
 pub fn aead_encrypt(s: &mut Session, out: &mut [u8], has_bin: bool, bin: &[u8]) -> Reply
     ensures { (result ≡ reply_of (seal_of s.old out.old (given has_bin bin.now))) × ((s.new ≡ (seal_of s.old out.old (given has_bin bin.now)).session) × (out.new ≡ (seal_of s.old out.old (given has_bin bin.now)).bytes)) }
 {
-    let a = Session::aead_encrypt(*s, out, has_bin, bin);
-    *s = a.session;
-    Reply {
-        number: a.number,
-        missing: a.missing,
-        spent: a.spent,
-    }
+    Reply::stored(s.aead_encrypt(out, has_bin, bin), s)
 }
 
 pub fn aead_encrypt_in_place_detached(s: &mut Session, in_out: &mut [u8]) -> SealReply
     ensures { (result ≡ seal_reply_of (seal_in_place_detached_of s.old in_out.old)) × ((s.new ≡ (seal_in_place_detached_of s.old in_out.old).session) × (in_out.new ≡ (seal_in_place_detached_of s.old in_out.old).bytes)) }
 {
-    let a = Session::aead_encrypt_in_place_detached(*s, in_out);
-    *s = a.session;
-    SealReply {
-        number: a.number,
-        missing: a.missing,
-        tag: a.tag,
-        spent: a.spent,
-    }
+    SealReply::stored(s.aead_encrypt_in_place_detached(in_out), s)
 }
 
 pub fn aead_encrypt_in_place(s: &mut Session, in_out: &mut [u8]) -> Reply
     ensures { (result ≡ reply_of (seal_in_place_of s.old in_out.old)) × ((s.new ≡ (seal_in_place_of s.old in_out.old).session) × (in_out.new ≡ (seal_in_place_of s.old in_out.old).bytes)) }
 {
-    let a = Session::aead_encrypt_in_place(*s, in_out);
-    *s = a.session;
-    Reply {
-        number: a.number,
-        missing: a.missing,
-        spent: a.spent,
-    }
+    Reply::stored(s.aead_encrypt_in_place(in_out), s)
 }
 
 pub fn aead_decrypt_detached(
@@ -72,47 +46,23 @@ pub fn aead_decrypt_detached(
 ) -> Reply
     ensures { (result ≡ reply_of (open_detached_of s.old out.old tag (given has_bin bin.now))) × ((s.new ≡ (open_detached_of s.old out.old tag (given has_bin bin.now)).session) × (out.new ≡ (open_detached_of s.old out.old tag (given has_bin bin.now)).bytes)) }
 {
-    let a = Session::aead_decrypt_detached(*s, out, tag, has_bin, bin);
-    *s = a.session;
-    Reply {
-        number: a.number,
-        missing: a.missing,
-        spent: a.spent,
-    }
+    Reply::stored(s.aead_decrypt_detached(out, tag, has_bin, bin), s)
 }
 
 pub fn aead_decrypt(s: &mut Session, out: &mut [u8], bin: &[u8]) -> Reply
     ensures { (result ≡ reply_of (open_of s.old out.old bin.now)) × ((s.new ≡ (open_of s.old out.old bin.now).session) × (out.new ≡ (open_of s.old out.old bin.now).bytes)) }
 {
-    let a = Session::aead_decrypt(*s, out, bin);
-    *s = a.session;
-    Reply {
-        number: a.number,
-        missing: a.missing,
-        spent: a.spent,
-    }
+    Reply::stored(s.aead_decrypt(out, bin), s)
 }
 
 pub fn aead_decrypt_in_place_detached(s: &mut Session, in_out: &mut [u8], tag: Tag) -> Reply
     ensures { (result ≡ reply_of (open_in_place_detached_of s.old in_out.old tag)) × ((s.new ≡ (open_in_place_detached_of s.old in_out.old tag).session) × (in_out.new ≡ (open_in_place_detached_of s.old in_out.old tag).bytes)) }
 {
-    let a = Session::aead_decrypt_in_place_detached(*s, in_out, tag);
-    *s = a.session;
-    Reply {
-        number: a.number,
-        missing: a.missing,
-        spent: a.spent,
-    }
+    Reply::stored(s.aead_decrypt_in_place_detached(in_out, tag), s)
 }
 
 pub fn aead_decrypt_in_place(s: &mut Session, in_out: &mut [u8]) -> Reply
     ensures { (result ≡ reply_of (open_in_place_of s.old in_out.old)) × ((s.new ≡ (open_in_place_of s.old in_out.old).session) × (in_out.new ≡ (open_in_place_of s.old in_out.old).bytes)) }
 {
-    let a = Session::aead_decrypt_in_place(*s, in_out);
-    *s = a.session;
-    Reply {
-        number: a.number,
-        missing: a.missing,
-        spent: a.spent,
-    }
+    Reply::stored(s.aead_decrypt_in_place(in_out), s)
 }

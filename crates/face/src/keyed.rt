@@ -18,80 +18,38 @@ pub fn absorb_key_and_nonce<'a>(
 ) -> Reply
     ensures { (result ≡ reply_of (key_of s.old key.now has_id id.now has_nonce nonce.now has_counter counter.now)) × (s.new ≡ (key_of s.old key.now has_id id.now has_nonce nonce.now has_counter counter.now).session) }
 {
-    let a = Session::absorb_key_and_nonce(
-        *s,
-        key,
-        has_id,
-        id,
-        has_nonce,
-        nonce,
-        has_counter,
-        counter,
-    );
-    *s = a.session;
-    Reply {
-        number: a.number,
-        missing: a.missing,
-        spent: a.spent,
-    }
+    Reply::stored(
+        s.absorb_key_and_nonce(key, has_id, id, has_nonce, nonce, has_counter, counter),
+        s,
+    )
 }
 
 pub fn ratchet(s: &mut Session) -> Reply
     ensures { (result ≡ reply_of (ratchet_of s.old)) × (s.new ≡ (ratchet_of s.old).session) }
 {
-    let a = Session::ratchet(*s);
-    *s = a.session;
-    Reply {
-        number: a.number,
-        missing: a.missing,
-        spent: a.spent,
-    }
+    Reply::stored(s.ratchet(), s)
 }
 
 pub fn encrypt(s: &mut Session, out: &mut [u8], bin: &[u8]) -> Reply
     ensures { (result ≡ reply_of (encrypt_of s.old out.old bin.now)) × ((s.new ≡ (encrypt_of s.old out.old bin.now).session) × (out.new ≡ (encrypt_of s.old out.old bin.now).bytes)) }
 {
-    let a = Session::encrypt(*s, out, bin);
-    *s = a.session;
-    Reply {
-        number: a.number,
-        missing: a.missing,
-        spent: a.spent,
-    }
+    Reply::stored(s.encrypt(out, bin), s)
 }
 
 pub fn decrypt(s: &mut Session, out: &mut [u8], bin: &[u8]) -> Reply
     ensures { (result ≡ reply_of (decrypt_of s.old out.old bin.now)) × ((s.new ≡ (decrypt_of s.old out.old bin.now).session) × (out.new ≡ (decrypt_of s.old out.old bin.now).bytes)) }
 {
-    let a = Session::decrypt(*s, out, bin);
-    *s = a.session;
-    Reply {
-        number: a.number,
-        missing: a.missing,
-        spent: a.spent,
-    }
+    Reply::stored(s.decrypt(out, bin), s)
 }
 
 pub fn encrypt_in_place(s: &mut Session, in_out: &mut [u8]) -> Reply
     ensures { (result ≡ reply_of (encrypt_in_place_of s.old in_out.old)) × ((s.new ≡ (encrypt_in_place_of s.old in_out.old).session) × (in_out.new ≡ (encrypt_in_place_of s.old in_out.old).bytes)) }
 {
-    let a = Session::encrypt_in_place(*s, in_out);
-    *s = a.session;
-    Reply {
-        number: a.number,
-        missing: a.missing,
-        spent: a.spent,
-    }
+    Reply::stored(s.encrypt_in_place(in_out), s)
 }
 
 pub fn decrypt_in_place(s: &mut Session, in_out: &mut [u8]) -> Reply
     ensures { (result ≡ reply_of (decrypt_in_place_of s.old in_out.old)) × ((s.new ≡ (decrypt_in_place_of s.old in_out.old).session) × (in_out.new ≡ (decrypt_in_place_of s.old in_out.old).bytes)) }
 {
-    let a = Session::decrypt_in_place(*s, in_out);
-    *s = a.session;
-    Reply {
-        number: a.number,
-        missing: a.missing,
-        spent: a.spent,
-    }
+    Reply::stored(s.decrypt_in_place(in_out), s)
 }

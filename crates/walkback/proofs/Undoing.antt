@@ -1,47 +1,39 @@
 -- Steps undone, as the loops undo them: blocks from the last, a squeeze by its length alone.
+use denote.Ref.{Bor}
 use mathlib.Core.Path.{◌≡◌, refl, sym, ap, ◌∙◌}
 use mathlib.Core.Bool.{Bool, true, false}
-use mathlib.Core.List.{List, [], ◌∷◌, ◌++◌, append-nil}
-use Prim.Native.Nat.{ℕ, suc, ◌+◌, ◌-◌, ◌%◌, ◌<◌, ◌≤◌, min}
+use mathlib.Core.List.{List, [], ◌∷◌, ◌++◌}
+use Prim.Native.Nat.{ℕ, zero, suc, ◌+◌, ◌-◌, ◌/◌, ◌*◌, ◌%◌, ◌<◌, ◌≤◌, min}
+use native.Mathlib.Nat.{not-suc-le-zero, le_refl, div-add-mod', div-eq_of_lt, div-eq-sub-div, mod-eq_of_lt, mod-eq-sub-mod}
 use native.Mathlib.Omega.{arith}
-use lib.ListN.{length, get_or, take, drop, length-drop, length-append, get_or-append}
-use lib.Seq.{length-take-le, take-length, take_all, take-append-add, get_or-append-add, get_or-append_seam}
-use Rattle.laws.specs.Lists.{add_front, add_at}
-use Rattle.laws.specs.Blocks.{cuts, sizes}
-use Rattle.laws.proofs.Lists.{add_front-nil, add_front-step}
-use Rattle.laws.proofs.Blocks.{cuts-step, cuts-nil, blocks_step, sizes_step, sizes-zero, sub-min}
+use lib.Dec.{ltb}
+use lib.ListN.{length, get_or, take, drop, length-append}
+use lib.Seq.{take_all, take-append_seam, drop-append_seam}
+use borrow.Author.Tests.{ltb-true, ltb-false}
+use Rattle.std.proofs.lemmas.List.{drop_more, drop_all}
+use Rattle.std.specs.Prelude.{Option, None}
+use Rattle.std.specs.Bool.{then_some}
+use Rattle.std.specs.Int.{div_ceil}
+use Rattle.std.specs.Slice.Iter.{chunk_count}
+use Rattle.laws.specs.Blocks.{cuts, sizes, block_count}
+use Rattle.laws.proofs.Blocks.{cuts-step, cuts-nil, blocks_step, sizes-count, count-step}
 use Rattle.laws.proofs.BlocksBack.{turn-back}
 use Rattle.xoodyak.specs.declared.cyclist.Mode.{Mode}
-use Rattle.xoodyak.specs.declared.cyclist.Mode.TheVariants.{Hash, Keyed}
 use Rattle.xoodyak.specs.declared.cyclist.Phase.{Phase}
-use Rattle.xoodyak.specs.declared.cyclist.Phase.TheVariants.{Down}
-use Rattle.xoodyak.specs.Cyclist.{absorb_rate, squeeze_rate, down_colour, down_bytes, chosen}
+use Rattle.xoodyak.specs.Cyclist.{squeeze_rate, chosen}
 use Rattle.xoodyak.proofs.Turns.{rate-pos}
-use Rattle.walkback.specs.Steps.{Step, up_step, down_step, undoes, undo, block_steps, ready_steps, absorb_block_steps, absorb_steps, next_steps, squeeze_more_steps, squeeze_steps}
-use Rattle.walkback.specs.Walk.{if_steps, key_run, key_steps}
-
--- ---- rates
-pub absorb-rate-pos : (m : Mode) → 0 < absorb_rate m
-absorb-rate-pos Hash = omega arith
-absorb-rate-pos Keyed = omega arith
-
-pub absorb-rate-le : (m : Mode) → absorb_rate m ≤ 44
-absorb-rate-le Hash = omega arith
-absorb-rate-le Keyed = omega arith
+use Rattle.walkback.specs.declared.steps.Undo.{Undo}
+use Rattle.walkback.specs.Steps.{Step, up_step, down_step, undo, undone, block_steps, ready_steps, absorb_block_steps, absorb_steps, next_steps}
+use Rattle.walkback.specs.Walk.{given_steps, key_run, key_steps}
 
 -- what comes later is undone first
-undo-append : (m : Mode) (ss ts : List Step) (st : List ℕ) → undo m (ss ++ ts) st ≡ undo m ss (undo m ts st)
+undone-append : (ss ts : List Step) (u : Undo) → undone (ss ++ ts) u ≡ undone ss (undone ts u)
 unfolding undo
-undo-append m [] ts st = refl
-undo-append m (s ∷ ss) ts st = ap (undoes m s) (undo-append m ss ts st)
+undone-append [] ts u = refl
+undone-append (s ∷ ss) ts u = ap (undone (s ∷ [])) (undone-append ss ts u)
 
-pub append-undone : (m : Mode) (ss ts : List Step) (st b a : List ℕ) → b ≡ undo m ts st → a ≡ undo m ss b → a ≡ undo m (ss ++ ts) st
-append-undone m ss ts st b a eb ea = ea ∙ ap (undo m ss) eb ∙ sym (undo-append m ss ts st)
-
--- an empty block is padding alone
-pub padding-undone : (m : Mode) (cd : ℕ) (st : List ℕ) → add_at (add_at st 0 1) 47 (down_colour m cd) ≡ undoes m (down_step [] cd) st
-unfolding undoes down_bytes
-padding-undone m cd st = ap (λ l. add_at (add_at l 0 1) 47 (down_colour m cd)) (sym (add_front-nil st))
+pub append-undone : (ss ts : List Step) (u b a : Undo) → b ≡ undone ts u → a ≡ undone ss b → a ≡ undone (ss ++ ts) u
+append-undone ss ts u b a eb ea = ea ∙ ap (undone ss) eb ∙ sym (undone-append ss ts u)
 
 -- ---- blocks
 -- the colour of the block after bs: cu where it is the first
@@ -53,141 +45,131 @@ after-zero : (bs : List (List ℕ)) → colour_after 0 bs ≡ 0
 after-zero [] = refl
 after-zero (b ∷ bs) = refl
 
-blocks_last : (m : Mode) (cu : ℕ) (bs : List (List ℕ)) (b st : List ℕ)
-    → undo m (block_steps cu (bs ++ (b ∷ []))) st ≡ undo m (block_steps cu bs) (undo m (block_steps (colour_after cu bs) (b ∷ [])) st)
+blocks_last : (cu : ℕ) (bs : List (List ℕ)) (b : List ℕ) (u : Undo)
+    → undone (block_steps cu (bs ++ (b ∷ []))) u ≡ undone (block_steps cu bs) (undone (block_steps (colour_after cu bs) (b ∷ [])) u)
 unfolding undo block_steps
-blocks_last m cu [] b st = refl
-blocks_last m cu (a ∷ bs) b st =
-    ap (λ l. undoes m (up_step cu) (undoes m (down_step a 0) l))
-    (blocks_last m 0 bs b st ∙ ap (λ u. undo m (block_steps 0 bs) (undo m (block_steps u (b ∷ [])) st)) (after-zero bs))
+blocks_last cu [] b u = refl
+blocks_last cu (a ∷ bs) b u =
+    ap (undone (up_step cu ∷ down_step a 0 ∷ []))
+    (blocks_last 0 bs b u ∙ ap (λ c. undone (block_steps 0 bs) (undone (block_steps c (b ∷ [])) u)) (after-zero bs))
 
-pub colour-first : (cu r i : ℕ) (x : List ℕ) → i ≡ 0 → cu ≡ colour_after cu (cuts r (take i x))
-colour-first cu r i x h = rw (h, cuts-nil r [] (omega arith))
+-- the block that i blocks stand before is the first where i is 0
+module _ (cu r i : ℕ) (front : List ℕ) (p : 0 < r) (e : i ≡ chunk_count (length front) r) where
+  pub colour-first : i ≡ 0 → cu ≡ colour_after cu (cuts r front)
+  colour-first h = split (length front) refl where
+    split : (n : ℕ) → length front ≡ n → cu ≡ colour_after cu (cuts r front)
+    split zero z = rw (cuts-nil r front (omega arith))
+    split (suc n) z =
+        let a = length front + r - 1 in
+        let d : a / r ≡ (a - r) / r + 1 = div-eq-sub-div p (omega arith) in
+        absurd (omega arith)
 
-pub colour-other : (cu r i : ℕ) (x : List ℕ) → 0 < r → 0 < i → i ≤ length x → 0 ≡ colour_after cu (cuts r (take i x))
-colour-other cu r i x p h g =
-    let l : length (take i x) ≡ i = length-take-le i x g in
-    rw (cuts-step r (take i x) (min r (length (take i x))) p (omega arith) refl)
+  pub colour-other : 0 < i → 0 ≡ colour_after cu (cuts r front)
+  colour-other h = rw (cuts-step r front (min r (length front)) p (omega arith) refl)
 
--- a turn of the loop goes from the end e back to i
-pub undo-turn : (m : Mode) (cu r i e colour : ℕ) (x st : List ℕ) → 0 < r → 0 < e → e ≤ length x → i ≡ e - ((e - 1) % r + 1)
-    → colour ≡ colour_after cu (cuts r (take i x))
-    → undo m (block_steps cu (cuts r (take i x))) (undo m (block_steps colour (take (e - i) (drop i x) ∷ [])) st)
-    ≡ undo m (block_steps cu (cuts r (take e x))) st
-undo-turn m cu r i e colour x st p h g q u =
-    rw (u, turn-back r i e x p h g q) (sym (blocks_last m cu (cuts r (take i x)) (take (e - i) (drop i x)) st))
+-- the last block starts at the last multiple of the rate below the length
+cuts-last : (r : ℕ) (front x : List ℕ) → 0 < r → 0 < length (front ++ x) → length front ≡ (length (front ++ x) - 1) / r * r
+    → cuts r (front ++ x) ≡ cuts r front ++ (x ∷ [])
+cuts-last r front x p h q =
+    let e = length (front ++ x) in
+    let i = length front in
+    let d : (e - 1) / r * r + (e - 1) % r ≡ e - 1 = div-add-mod' (e - 1) r in
+    let l : e ≡ i + length x = length-append front x in
+    let k : e - i ≡ length x = omega arith in
+    ap (cuts r) (sym (take_all e (front ++ x) (le_refl e)))
+    ∙ turn-back r i e (front ++ x) p h (le_refl e) (omega arith)
+    ∙ rw (take-append_seam front x, drop-append_seam front x, k, take_all (length x) x (le_refl _))
 
--- the same from what the turn made of the 48 bytes
-pub undone-turn : (m : Mode) (cu r i k e : ℕ) {colour : ℕ} (x st : List ℕ) {after : List ℕ}
-    → after ≡ undo m (block_steps colour (take (i + k - i) (drop i x) ∷ [])) st
-    → 0 < r → 0 < e → e ≤ length x → k ≡ (e - 1) % r + 1 → i ≡ e - k → k ≤ e
-    → colour ≡ colour_after cu (cuts r (take i x))
-    → undo m (block_steps cu (cuts r (take i x))) after ≡ undo m (block_steps cu (cuts r (take e x))) st
-undone-turn m cu r i k e {colour} x st a p h g ek ei le u =
-    let q : i + k - i ≡ e - i = omega arith in
-    ap (undo m (block_steps cu (cuts r (take i x)))) (a ∙ ap (λ n. undo m (block_steps colour (take n (drop i x) ∷ [])) st) q)
-    ∙ undo-turn m cu r i e colour x st p h g (omega arith) u
+-- a turn of the loop takes the last block of what is left
+pub blocks-turn : (cu r colour : ℕ) (left front x : List ℕ) (u after : Undo) → 0 < r → left ≡ front ++ x → 0 < length left
+    → length front ≡ (length left - 1) / r * r
+    → colour ≡ colour_after cu (cuts r front)
+    → after ≡ undone (block_steps colour (x ∷ [])) u
+    → undone (block_steps cu (cuts r front)) after ≡ undone (block_steps cu (cuts r left)) u
+blocks-turn cu r colour left front x u after p e h q c a =
+    let h' : 0 < length (front ++ x) = rw (← e) h in
+    let q' : length front ≡ (length (front ++ x) - 1) / r * r = rw (← e) q in
+    rw (a, c, e, cuts-last r front x p h' q') (sym (blocks_last cu (cuts r front) x u))
 
-pub undo-turned : (m : Mode) (cu r : ℕ) (x st : List ℕ) → length x ≤ 0 → undo m (block_steps cu (cuts r x)) st ≡ st
+pub blocks-turned : (cu r : ℕ) (left : List ℕ) (u : Undo) → length left ≡ 0 → undone (block_steps cu (cuts r left)) u ≡ u
 unfolding undo block_steps
-undo-turned m cu r x st h = rw (cuts-nil r x h)
+blocks-turned cu r left u h = rw (cuts-nil r left (omega arith))
 
 -- ---- absorb
-pub absorb-undone : (m : Mode) (p : Phase) (r k cd : ℕ) (x st b d a : List ℕ) → 0 < r → k ≡ min r (length x)
-    → b ≡ undo m (block_steps 0 (cuts r (drop k x))) st
-    → d ≡ undoes m (down_step (take k x) cd) b
-    → a ≡ undo m (ready_steps p) d
-    → a ≡ undo m (absorb_steps p r cd x) st
+pub absorb-undone : (p : Phase) (r k cd : ℕ) (x : List ℕ) (u b d a : Undo) → 0 < r → k ≡ min r (length x)
+    → b ≡ undone (block_steps 0 (cuts r (drop k x))) u
+    → d ≡ undone (down_step (take k x) cd ∷ []) b
+    → a ≡ undone (ready_steps p) d
+    → a ≡ undone (absorb_steps p r cd x) u
 unfolding absorb_steps absorb_block_steps undo
-absorb-undone m p r k cd x st b d a q e eb ed ea =
+absorb-undone p r k cd x u b d a q e eb ed ea =
     ea ∙ rw (ed, eb, blocks_step r k x q e)
-    (sym (undo-append m (ready_steps p) (down_step (take k x) cd ∷ block_steps 0 (cuts r (drop k x))) st))
+    (sym (undone-append (ready_steps p) (down_step (take k x) cd ∷ block_steps 0 (cuts r (drop k x))) u))
 
 -- ---- squeeze
 -- all blocks of a squeeze are alike, so that any of them may be undone first
-next-first : (m : Mode) (k : ℕ) (ks st : List ℕ)
-    → undo m (next_steps ks) (undo m (next_steps (k ∷ [])) st) ≡ undo m (next_steps (k ∷ ks)) st
+next-first : (k : ℕ) (ks : List ℕ) (u : Undo) → undone (next_steps ks) (undone (next_steps (k ∷ [])) u) ≡ undone (next_steps (k ∷ ks)) u
 unfolding undo next_steps
-next-first m k [] st = refl
-next-first m k (j ∷ ks) st = ap (λ l. undoes m (down_step [] 0) (undoes m (up_step 0) l)) (next-first m k ks st)
+next-first k [] u = refl
+next-first k (j ∷ ks) u = ap (undone (down_step [] 0 ∷ up_step 0 ∷ [])) (next-first k ks u)
 
-pub more_turn : (m : Mode) (n k : ℕ) (st : List ℕ) → 0 < n → k ≡ min (squeeze_rate m) n
-    → undo m (squeeze_more_steps m (n - k)) (undo m (down_step [] 0 ∷ up_step 0 ∷ []) st) ≡ undo m (squeeze_more_steps m n) st
-unfolding squeeze_more_steps next_steps
-more_turn m n k st h e =
-    next-first m k (sizes (squeeze_rate m) (n - k)) st
-    ∙ rw (sizes_step (squeeze_rate m) n k (rate-pos m) h e)
+-- a turn of the loop undoes the block at i
+pub more-turn : (i : ℕ) (ks : List ℕ) (u b a : Undo) → i < length ks
+    → b ≡ undone (up_step 0 ∷ []) u
+    → a ≡ undone (down_step [] 0 ∷ []) b
+    → undone (next_steps (drop (i + 1) ks)) a ≡ undone (next_steps (drop i ks)) u
+unfolding undo next_steps
+more-turn i ks u b a h eb ea =
+    ap (undone (next_steps (drop (i + 1) ks))) (ea ∙ ap (undone (down_step [] 0 ∷ [])) eb)
+    ∙ next-first (get_or ks i 0) (drop (i + 1) ks) u
+    ∙ ap (λ l. undone (next_steps l) u) (sym (drop_more ks i 0 h))
 
-pub more-turned : (m : Mode) (n : ℕ) (st : List ℕ) → n ≤ 0 → undo m (squeeze_more_steps m n) st ≡ st
-unfolding squeeze_more_steps next_steps undo
-more-turned m n st h = rw (sizes-zero (squeeze_rate m) n h)
+pub more-turned : (i : ℕ) (ks : List ℕ) (u : Undo) → length ks ≤ i → undone (next_steps (drop i ks)) u ≡ u
+unfolding undo next_steps
+more-turned i ks u h = ap (λ l. undone (next_steps l) u) (drop_all i ks h)
 
-pub squeeze-undone : (m : Mode) (cu n rate k : ℕ) (st b a : List ℕ) → rate ≡ squeeze_rate m → k ≡ min rate n
-    → b ≡ undo m (squeeze_more_steps m (n - k)) st
-    → a ≡ undoes m (up_step cu) b
-    → a ≡ undo m (squeeze_steps m cu n) st
-unfolding squeeze_steps undo
-squeeze-undone m cu n rate k st b a er e eb ea = ea ∙ rw (eb, e, er, sub-min)
+-- how many blocks they are
+ceil-step : (r n : ℕ) → 0 < r → 0 < n → div_ceil n r ≡ suc (div_ceil (n - r) r)
+ceil-step r n p h = split (ltb n r) refl where
+  split : (b : Bool) → ltb n r ≡ b → div_ceil n r ≡ suc (div_ceil (n - r) r)
+  split true e =
+      let l : n < r = ltb-true n r e in
+      let z : n - r ≡ 0 = omega arith in
+      rw (z, div-eq_of_lt l, mod-eq_of_lt l, div-eq_of_lt p, mod-eq_of_lt p) (omega arith)
+  split false e =
+      let l : r ≤ n = ltb-false n r e in
+      let d : n / r ≡ (n - r) / r + 1 = div-eq-sub-div p l in
+      let m : n % r ≡ (n - r) % r = mod-eq-sub-mod l in
+      omega arith
+
+ceil-count : (f r n : ℕ) → 0 < r → n ≤ f → div_ceil n r ≡ block_count r n
+unfolding block_count
+ceil-count f r zero p h = rw (div-eq_of_lt p, mod-eq_of_lt p)
+ceil-count zero r (suc n) p h = absurd (not-suc-le-zero h)
+ceil-count (suc f) r (suc n) p h = ceil-step r (suc n) p (omega arith) ∙ ap suc (ceil-count f r (suc n - r) p (omega arith) ∙ count-step r n p)
+
+pub more-count : (m : Mode) (n : ℕ) → div_ceil n (squeeze_rate m) ≡ length (sizes (squeeze_rate m) n)
+more-count m n = let p = rate-pos m in ceil-count n (squeeze_rate m) n p (le_refl n) ∙ sym (sizes-count (squeeze_rate m) n p)
 
 -- ---- the key call
--- a run of at most one block
-pub absorb-one : (m : Mode) (p : Phase) (cd : ℕ) (x st b a : List ℕ) → length x ≤ 44
-    → b ≡ undoes m (down_step x cd) st
-    → a ≡ undo m (ready_steps p) b
-    → a ≡ undo m (absorb_steps p 44 cd x) st
-absorb-one m p cd x st b a h eb ea =
-    absorb-undone m p 44 (length x) cd x st st b a (omega arith) (omega arith)
-    (sym (undo-turned m 0 44 (drop (length x) x) st (rw length-drop (omega arith))))
-    (eb ∙ rw take-length)
-    ea
-
-pub if-true : (m : Mode) (f : Bool) (ss : List Step) (st a : List ℕ) → f ≡ true → a ≡ undo m ss st → a ≡ undo m (if_steps f ss) st
-if-true m f ss st a h e = rw h e
-
-pub if-false : (m : Mode) (f : Bool) (ss : List Step) (st a : List ℕ) → f ≡ false → a ≡ st → a ≡ undo m (if_steps f ss) st
+pub given-none : (r : ℕ) (x : Option (Bor (List ℕ))) (u : Undo) → x ≡ None → u ≡ undone (given_steps r x) u
 unfolding undo
-if-false m f ss st a h e = rw h e
+given-none r x u e = rw e refl
 
-pub key-undone : (m : Mode) (p : Phase) (key id nonce counter : List ℕ) (has_id has_counter : Bool) (st a b c : List ℕ)
-    → a ≡ undo m (if_steps has_counter (absorb_steps Down 1 0 counter)) st
-    → b ≡ undo m (if_steps has_id (absorb_steps Down 44 0 nonce)) a
-    → c ≡ undo m (absorb_steps p 44 2 (key_run key (chosen has_id id nonce))) b
-    → c ≡ undo m (key_steps p key has_id id nonce has_counter counter) st
-unfolding key_steps
-key-undone m p key id nonce counter has_id has_counter st a b c ea eb ec =
-    append-undone m _ _ st b c (append-undone m _ _ st a b ea eb) ec
-
-pub length_run : (key t : List ℕ) → length (key_run key t) ≡ length key + length t + 1
-unfolding key_run
-length_run key t = rw (length-append, length-append) (omega arith)
+-- the flags and slices of a key call, as its parts hold them: t, and the nonce and counter where they are absorbed
+module _ (p : Phase) (key : List ℕ) (has_id : Bool) (id nonce : Bor (List ℕ)) (has_counter : Bool) (counter : Bor (List ℕ))
+    {t : List ℕ} {beside count : Option (Bor (List ℕ))} (et : t ≡ chosen has_id id.now nonce.now) (eb : beside ≡ then_some has_id nonce) (ec : count ≡ then_some has_counter counter)
+  where
+    pub key-parts : absorb_steps p 44 2 (key_run key t) ++ (given_steps 44 beside ++ given_steps 1 count) ≡ key_steps p key has_id id.now nonce.now has_counter counter.now
+    unfolding key_steps
+    key-parts = rw (et, eb, ec) (by-case has_id has_counter) where
+      by-case : (f g : Bool) → absorb_steps p 44 2 (key_run key (chosen f id.now nonce.now)) ++ (given_steps 44 (then_some f nonce) ++ given_steps 1 (then_some g counter))
+          ≡ key_steps p key f id.now nonce.now g counter.now
+      by-case true true = refl
+      by-case true false = refl
+      by-case false true = refl
+      by-case false false = refl
 
 pub chosen-length : (f : Bool) (x y : List ℕ) → length (chosen f x y) ≤ length x + length y
 chosen-length true x y = omega arith
 chosen-length false x y = omega arith
-
--- key, t and the length of t, as they are added one after the other
-pub key-first : (key t : List ℕ) → take (length key + 0) (key_run key t) ≡ key
-unfolding key_run
-key-first key t = take-append-add key (t ++ (length t ∷ [])) 0 ∙ append-nil key
-
-key-at : (key t : List ℕ) (i : ℕ) → i < length t → get_or (key_run key t) (length key + i) 0 ≡ get_or t i 0
-unfolding key_run
-key-at key t i h = get_or-append-add key (t ++ (length t ∷ [])) i 0 ∙ get_or-append t (length t ∷ []) 0 i h
-
-pub key-next : (s key t : List ℕ) (i : ℕ) → i < length t
-    → add_at (add_front s (take (length key + i) (key_run key t))) (length key + i) (get_or t i 0) ≡ add_front s (take (length key + (i + 1)) (key_run key t))
-key-next s key t i h =
-    let e : suc (length key + i) ≡ length key + (i + 1) = omega arith in
-    rw (← key-at key t i h, ← e) (add_front-step s (key_run key t) (length key + i) (omega (arith, length_run key t)))
-
-key-end : (key t : List ℕ) → get_or (key_run key t) (length key + length t) 0 ≡ length t
-unfolding key_run
-key-end key t = get_or-append-add key (t ++ (length t ∷ [])) (length t) 0 ∙ get_or-append_seam t (length t) [] 0
-
-pub key-last : (s key t : List ℕ)
-    → add_at (add_front s (take (length key + length t) (key_run key t))) (length key + length t) (length t) ≡ add_front s (key_run key t)
-key-last s key t =
-    let e = length key + length t in
-    ap (add_at (add_front s (take e (key_run key t))) e) (sym (key-end key t))
-    ∙ add_front-step s (key_run key t) e (omega (arith, length_run key t))
-    ∙ ap (add_front s) (take_all (suc e) (key_run key t) (omega (arith, length_run key t)))

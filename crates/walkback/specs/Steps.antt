@@ -5,6 +5,7 @@ use Rattle.xoodoo.specs.Xoodoo.{inverse}
 use Rattle.xoodyak.specs.declared.cyclist.Mode.{Mode}
 use Rattle.xoodyak.specs.declared.cyclist.Phase.{Phase}
 use Rattle.xoodyak.specs.declared.cyclist.Phase.TheVariants.{Up, Down}
+use Rattle.walkback.specs.declared.steps.Undo.{Undo}
 use Rattle.xoodyak.specs.Cyclist.{squeeze_rate, up_colour, up_bytes, down_bytes}
 
 -- Up with cu, Down with x and cd
@@ -29,6 +30,10 @@ run m (s ∷ ss) st = run m ss (does m s st)
 unfoldable pub undo : Mode → List Step → List ℕ → List ℕ
 undo m [] st = st
 undo m (s ∷ ss) st = undoes m s (undo m ss st)
+
+-- the same of 48 bytes with their mode, which stays
+abbrev pub undone : List Step → Undo → Undo
+undone ss u = record { st = undo u.mode ss u.st; mode = u.mode }
 
 -- the number of Up steps: the permutations that they cost, forward or back
 unfoldable pub ups : List Step → ℕ

@@ -1,5 +1,6 @@
 -- Calls of a session, run forward and walked back.
-use Rattle.std.specs.Prelude.{◌≡◌, Bool, true, false, List, [], ◌∷◌, ◌++◌, ℕ, zero, suc, length}
+use denote.Ref.{Bor}
+use Rattle.std.specs.Prelude.{◌≡◌, Bool, true, false, Option, None, Some, List, [], ◌∷◌, ◌++◌, ℕ, zero, suc, length}
 use Rattle.laws.specs.Lists.{All}
 use Rattle.laws.specs.Blocks.{cuts}
 use Rattle.xoodyak.specs.declared.cyclist.Mode.{Mode}
@@ -55,6 +56,11 @@ forward rule (seals x) d = squeeze_end (enc_end (message_blocks rule x) 0x80 d) 
 abbrev pub if_steps : Bool → List Step → List Step
 if_steps true ss = ss
 if_steps false ss = []
+
+-- an optional slice absorbed after the key
+abbrev pub given_steps : ℕ → Option (Bor (List ℕ)) → List Step
+given_steps r None = []
+given_steps r (Some x) = absorb_steps Down r 0 x.now
 
 -- key, t and the one-byte length of t
 unfoldable pub key_run : List ℕ → List ℕ → List ℕ

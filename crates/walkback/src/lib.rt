@@ -1,20 +1,22 @@
 // Walking back: the 48 bytes before a call, from the 48 bytes after it.
 #![tactic(auto)]
 
-mod bytes;
-mod numbers;
 mod steps;
 
 ghost use Rattle.std.specs.Prelude.{◌≡◌};
+ghost use Rattle.xoodyak.specs.Numbers.{first, mode_number, key_number};
+ghost use Rattle.xoodyak.specs.Refusals.{number_of, Tells};
 ghost use Rattle.walkback.specs.Walk.{absorbs, absorbs_more, squeezes, squeezes_key, squeezes_more, keys, encrypts, seals, before_of, phase_of, message_phase, unless_empty};
 
-use bytes::or_empty;
-use numbers::{absorb_rate, first, key_number, mode_number, rate_number};
-use steps::{undo_absorb, undo_blocks, undo_key, undo_message, undo_squeeze, undo_squeeze_more};
+use steps::Undo;
 use xoodyak::Rule;
+use xoodyak::bytes::{choose, or_empty};
 use xoodyak::cyclist::{Mode, Phase};
+use xoodyak::key::KeyParts;
+use xoodyak::numbers::{Refusal, key_lengths};
 
-// The 48 bytes before the call and 0, or the 48 bytes given and the number that the call itself would refuse with.
+// The 48 bytes before the call and 0, or the 48 bytes given and the number that the call itself would refuse with. Public calls
+// refuse by a number, and no `Result`.
 #[derive(Clone, Copy)]
 pub struct Before {
     pub st: [u8; 48],
@@ -33,26 +35,37 @@ pub enum Kind {
     Seal,
 }
 
-fn accepted(st: [u8; 48]) -> Before
-    ensures { result ≡ record { st = st; number = 0 } }
-{
-    Before { st: st, number: 0 }
+impl Before {
+    fn accepted(st: [u8; 48]) -> Self
+        ensures { result ≡ record { st = st; number = 0 } }
+    {
+        Self { st, number: 0 }
+    }
+
+    fn refused(given: [u8; 48], refusal: Refusal) -> Self
+        ensures { result ≡ record { st = given; number = number_of refusal } }
+    {
+        Self {
+            st: given,
+            number: refusal.number(),
+        }
+    }
 }
 
-fn refused(given: [u8; 48], number: u8) -> Before
-    ensures { result ≡ record { st = given; number = number } }
+// What the key call asks.
+fn keyed_with_lengths(mode: Mode, key: usize, id: usize, nonce: usize) -> Result<(), Refusal>
+    ensures { Tells result (first (mode_number mode) (key_number key id nonce)) 0 }
 {
-    Before {
-        st: given,
-        number: number,
-    }
+    mode.keyed()?;
+    key_lengths(key, id, nonce)
 }
 
 pub fn absorb(st: [u8; 48], rule: Rule, mode: Mode, phase: Phase, bin: &[u8]) -> Before
     ensures { result ≡ before_of rule mode phase (absorbs bin.now) st }
 {
-    let rate = absorb_rate(mode);
-    accepted(undo_absorb(st, mode, phase, bin, rate, 0x03))
+    let mut undo = Undo { st, mode };
+    undo.absorb(phase, bin, mode.absorb_rate(), 0x03);
+    Before::accepted(undo.st)
 }
 
 pub fn absorb_more(
@@ -65,31 +78,40 @@ pub fn absorb_more(
 ) -> Before
     ensures { result ≡ before_of rule mode phase (absorbs_more bin.now rate) st }
 {
-    let number = rate_number(mode, rate);
-    if number != 0 {
-        return refused(st, number);
+    if let Err(refusal) = mode.takes(rate) {
+        return Before::refused(st, refusal);
     }
-    accepted(undo_blocks(st, mode, bin, rate, 0))
+    let mut undo = Undo { st, mode };
+    undo.blocks(bin, rate, 0);
+    Before::accepted(undo.st)
 }
 
 pub fn squeeze(st: [u8; 48], rule: Rule, mode: Mode, phase: Phase, n: usize) -> Before
     ensures { result ≡ before_of rule mode phase (squeezes n) st }
 {
-    accepted(undo_squeeze(st, mode, n, 0x40))
+    let mut undo = Undo { st, mode };
+    undo.squeeze(n, 0x40);
+    Before::accepted(undo.st)
 }
 
+// Squeeze with another colour: each is a public call.
 pub fn squeeze_key(st: [u8; 48], rule: Rule, mode: Mode, phase: Phase, n: usize) -> Before
     ensures { result ≡ before_of rule mode phase (squeezes_key n) st }
 {
-    accepted(undo_squeeze(st, mode, n, 0x20))
+    let mut undo = Undo { st, mode };
+    undo.squeeze(n, 0x20);
+    Before::accepted(undo.st)
 }
 
 pub fn squeeze_more(st: [u8; 48], rule: Rule, mode: Mode, phase: Phase, n: usize) -> Before
     ensures { result ≡ before_of rule mode phase (squeezes_more n) st }
 {
-    accepted(undo_squeeze_more(st, mode, n))
+    let mut undo = Undo { st, mode };
+    undo.squeeze_more(n);
+    Before::accepted(undo.st)
 }
 
+// A public call takes an optional argument as a flag and a slice.
 pub fn key<'a>(
     st: [u8; 48],
     rule: Rule,
@@ -107,32 +129,41 @@ pub fn key<'a>(
 {
     let i = or_empty(has_id, id);
     let m = or_empty(has_nonce, nonce);
-    let number = first(mode_number(mode), key_number(key.len(), i.len(), m.len()));
-    if number != 0 {
-        return refused(st, number);
+    if let Err(refusal) = keyed_with_lengths(mode, key.len(), i.len(), m.len()) {
+        return Before::refused(st, refusal);
     }
-    accepted(undo_key(st, mode, phase, key, has_id, i, m, has_counter, counter))
+    let parts = KeyParts {
+        key,
+        t: choose(has_id, i, m),
+        nonce: has_id.then_some(m),
+        counter: has_counter.then_some(counter),
+    };
+    let mut undo = Undo { st, mode };
+    undo.key(phase, parts);
+    Before::accepted(undo.st)
 }
 
 pub fn encrypt(st: [u8; 48], rule: Rule, mode: Mode, phase: Phase, plaintext: &[u8]) -> Before
     ensures { result ≡ before_of rule mode phase (encrypts plaintext.now) st }
 {
-    let number = mode_number(mode);
-    if number != 0 {
-        return refused(st, number);
+    if let Err(refusal) = mode.keyed() {
+        return Before::refused(st, refusal);
     }
-    accepted(undo_message(st, rule, mode, plaintext))
+    let mut undo = Undo { st, mode };
+    undo.message(rule, plaintext);
+    Before::accepted(undo.st)
 }
 
 pub fn seal(st: [u8; 48], rule: Rule, mode: Mode, phase: Phase, plaintext: &[u8]) -> Before
     ensures { result ≡ before_of rule mode phase (seals plaintext.now) st }
 {
-    let number = mode_number(mode);
-    if number != 0 {
-        return refused(st, number);
+    if let Err(refusal) = mode.keyed() {
+        return Before::refused(st, refusal);
     }
-    let b = undo_squeeze(st, mode, 16, 0x40);
-    accepted(undo_message(b, rule, mode, plaintext))
+    let mut undo = Undo { st, mode };
+    undo.squeeze(16, 0x40);
+    undo.message(rule, plaintext);
+    Before::accepted(undo.st)
 }
 
 fn unless_empty(n: usize, before: Phase, after: Phase) -> Phase
@@ -156,13 +187,10 @@ pub fn phase_after(rule: Rule, phase: Phase, kind: Kind, n: usize) -> Phase
     ensures { result ≡ phase_of rule phase kind n }
 {
     match kind {
-        Kind::Absorb => Phase::Down,
+        Kind::Absorb | Kind::Key => Phase::Down,
         Kind::AbsorbMore => unless_empty(n, phase, Phase::Down),
-        Kind::Squeeze => Phase::Up,
-        Kind::SqueezeKey => Phase::Up,
+        Kind::Squeeze | Kind::SqueezeKey | Kind::Seal => Phase::Up,
         Kind::SqueezeMore => unless_empty(n, phase, Phase::Up),
-        Kind::Key => Phase::Down,
         Kind::Encrypt => message_phase(rule, n, phase),
-        Kind::Seal => Phase::Up,
     }
 }

@@ -1,27 +1,20 @@
 -- Refused by its rate alone; otherwise its blocks are undone at that rate.
-use mathlib.Core.Path.{◌≡◌, sym, ◌∙◌}
-use native.Mathlib.Omega.{arith}
-use Rattle.walkback.specs.Walk.{absorbs_more, call_number, steps, back}
-use Rattle.walkback.proofs.Settling.{rate-bounds, before-taken, before-refused}
+use Rattle.xoodyak.proofs.Settle.{rate-fits}
+use Rattle.walkback.specs.Walk.{absorbs_more, call_number, steps}
+use Rattle.walkback.proofs.Settling.{before-taken, before-refused}
 use Rattle.walkback.proofs.absorb_more.Goals as goal
 
-pub returns-then-number-ne0 : goal.returns-then-number-ne0
+pub returns-in-Err : goal.returns-in-Err
 unfolding call_number
-returns-then-number-ne0 c =
+returns-in-Err c =
     let a = c.args in
-    before-refused a.rule a.mode a.phase (absorbs_more a.bin.now a.rate) a.st _ _ c.rate_number-number.ensures (omega arith) c.refused.ensures
+    before-refused a.rule a.mode a.phase (absorbs_more a.bin.now a.rate) a.st _ _ c.in-Err.ensures.0 c.refused.ensures
 
-pub undo_blocks-requires : goal.undo_blocks-requires
-undo_blocks-requires c =
-    let a = c.args in
-    let z : c.rate_number-number.result ≡ 0 = omega arith in
-    rate-bounds a.mode a.rate (sym c.rate_number-number.ensures ∙ z)
+pub blocks-requires : goal.blocks-requires
+blocks-requires c = rate-fits _ _ c.in_default.ensures.0
 
 pub returns : goal.returns
-unfolding call_number steps back
+unfolding call_number steps
 returns c =
-    let z : c.rate_number-number.result ≡ 0 = omega arith in
     let a = c.args in
-    before-taken a.rule a.mode a.phase (absorbs_more a.bin.now a.rate) a.st _ _ (sym c.rate_number-number.ensures ∙ z)
-    c.undo_blocks.ensures
-    c.accepted.ensures
+    before-taken a.rule a.mode a.phase (absorbs_more a.bin.now a.rate) a.st _ c.blocks-2.new.self c.in_default.ensures.0 c.blocks-2.ensures c.accepted.ensures

@@ -1,21 +1,16 @@
 -- Refused in Hash; otherwise the blocks of the message are undone, as the rule gives them.
-use mathlib.Core.Path.{◌≡◌, sym, ◌∙◌}
-use native.Mathlib.Omega.{arith}
-use Rattle.walkback.specs.Walk.{encrypts, call_number, steps, back}
+use Rattle.walkback.specs.Walk.{encrypts, call_number, steps}
 use Rattle.walkback.proofs.Settling.{before-taken, before-refused}
 use Rattle.walkback.proofs.encrypt.Goals as goal
 
-pub returns-then-number-ne0 : goal.returns-then-number-ne0
+pub returns-in-Err : goal.returns-in-Err
 unfolding call_number
-returns-then-number-ne0 c =
+returns-in-Err c =
     let a = c.args in
-    before-refused a.rule a.mode a.phase (encrypts a.plaintext.now) a.st _ _ c.mode_number-number.ensures (omega arith) c.refused.ensures
+    before-refused a.rule a.mode a.phase (encrypts a.plaintext.now) a.st _ _ c.in-Err.ensures.0 c.refused.ensures
 
 pub returns : goal.returns
-unfolding call_number steps back
+unfolding call_number steps
 returns c =
-    let z : c.mode_number-number.result ≡ 0 = omega arith in
     let a = c.args in
-    before-taken a.rule a.mode a.phase (encrypts a.plaintext.now) a.st _ _ (sym c.mode_number-number.ensures ∙ z)
-    c.undo_message.ensures
-    c.accepted.ensures
+    before-taken a.rule a.mode a.phase (encrypts a.plaintext.now) a.st _ c.message.new.self c.in_default.ensures.0 c.message.ensures c.accepted.ensures

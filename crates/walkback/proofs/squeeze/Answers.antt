@@ -1,13 +1,11 @@
 -- A squeeze is never refused, and its steps are undone from its length alone.
 use mathlib.Core.Path.{refl}
-use Rattle.walkback.specs.Walk.{squeezes, call_number, steps, back}
+use Rattle.walkback.specs.Walk.{squeezes, call_number, steps}
 use Rattle.walkback.proofs.Settling.{before-taken}
 use Rattle.walkback.proofs.squeeze.Goals as goal
 
 pub returns : goal.returns
-unfolding call_number steps back
+unfolding call_number steps
 returns c =
     let a = c.args in
-    before-taken a.rule a.mode a.phase (squeezes a.n) a.st _ _ refl
-    c.undo_squeeze.ensures
-    c.accepted.ensures
+    before-taken a.rule a.mode a.phase (squeezes a.n) a.st _ c.squeeze.new.self refl c.squeeze.ensures c.accepted.ensures

@@ -1,7 +1,0 @@
--- Down was the later step, so it is undone first.
-use Rattle.walkback.specs.Steps.{undo, block_steps}
-use Rattle.walkback.proofs.steps.undo_block.Goals as goal
-
-pub returns : goal.returns
-unfolding undo block_steps
-returns c = rw (c.undo_up.ensures, c.undo_down.ensures)
