@@ -1,5 +1,4 @@
--- The walks that the exported functions' proofs cite.
-pub mod Walk
-pub mod Portions
-pub mod Steps
-pub mod States
+-- The lemmas by which the exported functions are proved.
+pub mod Codes
+pub mod Finishes
+pub mod Heads

@@ -1,10 +1,13 @@
 // Exported calls that seal or open with a tag, and the comparison of tags.
+#![tactic(auto, using(crate::proofs::Codes::decoding), unfolding(crate::specs::Capi::exported, crate::specs::Capi::sound_with))]
+
 ghost use Rattle.std.specs.Prelude.{◌≡◌, []};
 ghost use Rattle.xoodyak.specs.Cyclist.{given};
 ghost use Rattle.xoodyak.specs.Calls.{seal_detached_of, seal_of, open_detached_of, open_of, seal_in_place_detached_of, seal_in_place_of, open_in_place_detached_of, open_in_place_of, verify_of};
 ghost use Rattle.capi.specs.Capi.{flag_of, sound, sound_with, exported, whole};
 
-use crate::session::{flag_of, keep, put, session_of, sound, sound_with};
+use crate::code::Code;
+use crate::session::{UNSOUND, keep, session_of};
 use xoodyak::tag::Tag;
 
 pub fn lafomeihu_aead_encrypt_detached(
@@ -18,20 +21,12 @@ pub fn lafomeihu_aead_encrypt_detached(
 ) -> u8
     ensures { let x = exported (sound_with head.old has_bin) st.old head.old out.old tag.old counts.old (λ s. whole (seal_detached_of s out.old (given (flag_of has_bin) bin.now))) in (result ≡ x.number) × ((st.new ≡ x.st) × ((head.new ≡ x.head) × ((out.new ≡ x.bytes) × ((tag.new ≡ x.tag) × (counts.new ≡ x.counts))))) }
 {
-    let b = *st;
-    let h = *head;
-    if sound_with(h, has_bin) {
-        let f = flag_of(has_bin);
-        let a = session_of(b, h).aead_encrypt_detached(out, f, bin);
-        let t = a.tag;
-        let got = t.bytes;
-        *tag = got;
-        let s = a.session;
-        put(st, head, s);
-        *counts = [a.missing, 0, a.spent];
-        return a.number;
-    }
-    40
+    let (Some(s), Some(has_bin)) = (session_of(*st, *head), bool::decode(has_bin)) else {
+        return UNSOUND;
+    };
+    let a = s.aead_encrypt_detached(out, has_bin, bin);
+    *tag = a.tag.into_bytes();
+    keep(st, head, counts, a.into())
 }
 
 pub fn lafomeihu_aead_encrypt(
@@ -44,14 +39,10 @@ pub fn lafomeihu_aead_encrypt(
 ) -> u8
     ensures { let x = exported (sound_with head.old has_bin) st.old head.old out.old [] counts.old (λ s. whole (seal_of s out.old (given (flag_of has_bin) bin.now))) in (result ≡ x.number) × ((st.new ≡ x.st) × ((head.new ≡ x.head) × ((out.new ≡ x.bytes) × (counts.new ≡ x.counts)))) }
 {
-    let b = *st;
-    let h = *head;
-    if sound_with(h, has_bin) {
-        let f = flag_of(has_bin);
-        let a = session_of(b, h).aead_encrypt(out, f, bin);
-        return keep(st, head, counts, a);
-    }
-    40
+    let (Some(s), Some(has_bin)) = (session_of(*st, *head), bool::decode(has_bin)) else {
+        return UNSOUND;
+    };
+    keep(st, head, counts, s.aead_encrypt(out, has_bin, bin).into())
 }
 
 pub fn lafomeihu_aead_decrypt_detached(
@@ -65,15 +56,16 @@ pub fn lafomeihu_aead_decrypt_detached(
 ) -> u8
     ensures { let x = exported (sound_with head.old has_bin) st.old head.old out.old [] counts.old (λ s. whole (open_detached_of s out.old (record { bytes = tag.now }) (given (flag_of has_bin) bin.now))) in (result ≡ x.number) × ((st.new ≡ x.st) × ((head.new ≡ x.head) × ((out.new ≡ x.bytes) × (counts.new ≡ x.counts)))) }
 {
-    let b = *st;
-    let h = *head;
-    if sound_with(h, has_bin) {
-        let t = Tag::from_bytes(*tag);
-        let f = flag_of(has_bin);
-        let a = session_of(b, h).aead_decrypt_detached(out, t, f, bin);
-        return keep(st, head, counts, a);
-    }
-    40
+    let (Some(s), Some(has_bin)) = (session_of(*st, *head), bool::decode(has_bin)) else {
+        return UNSOUND;
+    };
+    keep(
+        st,
+        head,
+        counts,
+        s.aead_decrypt_detached(out, Tag::from_bytes(*tag), has_bin, bin)
+            .into(),
+    )
 }
 
 pub fn lafomeihu_aead_decrypt(
@@ -85,13 +77,10 @@ pub fn lafomeihu_aead_decrypt(
 ) -> u8
     ensures { let x = exported (sound head.old) st.old head.old out.old [] counts.old (λ s. whole (open_of s out.old bin.now)) in (result ≡ x.number) × ((st.new ≡ x.st) × ((head.new ≡ x.head) × ((out.new ≡ x.bytes) × (counts.new ≡ x.counts)))) }
 {
-    let b = *st;
-    let h = *head;
-    if sound(h) {
-        let a = session_of(b, h).aead_decrypt(out, bin);
-        return keep(st, head, counts, a);
-    }
-    40
+    let Some(s) = session_of(*st, *head) else {
+        return UNSOUND;
+    };
+    keep(st, head, counts, s.aead_decrypt(out, bin).into())
 }
 
 pub fn lafomeihu_aead_encrypt_in_place_detached(
@@ -103,19 +92,12 @@ pub fn lafomeihu_aead_encrypt_in_place_detached(
 ) -> u8
     ensures { let x = exported (sound head.old) st.old head.old in_out.old tag.old counts.old (λ s. whole (seal_in_place_detached_of s in_out.old)) in (result ≡ x.number) × ((st.new ≡ x.st) × ((head.new ≡ x.head) × ((in_out.new ≡ x.bytes) × ((tag.new ≡ x.tag) × (counts.new ≡ x.counts))))) }
 {
-    let b = *st;
-    let h = *head;
-    if sound(h) {
-        let a = session_of(b, h).aead_encrypt_in_place_detached(in_out);
-        let t = a.tag;
-        let got = t.bytes;
-        *tag = got;
-        let s = a.session;
-        put(st, head, s);
-        *counts = [a.missing, 0, a.spent];
-        return a.number;
-    }
-    40
+    let Some(s) = session_of(*st, *head) else {
+        return UNSOUND;
+    };
+    let a = s.aead_encrypt_in_place_detached(in_out);
+    *tag = a.tag.into_bytes();
+    keep(st, head, counts, a.into())
 }
 
 pub fn lafomeihu_aead_encrypt_in_place(
@@ -126,13 +108,10 @@ pub fn lafomeihu_aead_encrypt_in_place(
 ) -> u8
     ensures { let x = exported (sound head.old) st.old head.old in_out.old [] counts.old (λ s. whole (seal_in_place_of s in_out.old)) in (result ≡ x.number) × ((st.new ≡ x.st) × ((head.new ≡ x.head) × ((in_out.new ≡ x.bytes) × (counts.new ≡ x.counts)))) }
 {
-    let b = *st;
-    let h = *head;
-    if sound(h) {
-        let a = session_of(b, h).aead_encrypt_in_place(in_out);
-        return keep(st, head, counts, a);
-    }
-    40
+    let Some(s) = session_of(*st, *head) else {
+        return UNSOUND;
+    };
+    keep(st, head, counts, s.aead_encrypt_in_place(in_out).into())
 }
 
 pub fn lafomeihu_aead_decrypt_in_place_detached(
@@ -144,14 +123,16 @@ pub fn lafomeihu_aead_decrypt_in_place_detached(
 ) -> u8
     ensures { let x = exported (sound head.old) st.old head.old in_out.old [] counts.old (λ s. whole (open_in_place_detached_of s in_out.old (record { bytes = tag.now }))) in (result ≡ x.number) × ((st.new ≡ x.st) × ((head.new ≡ x.head) × ((in_out.new ≡ x.bytes) × (counts.new ≡ x.counts)))) }
 {
-    let b = *st;
-    let h = *head;
-    if sound(h) {
-        let t = Tag::from_bytes(*tag);
-        let a = session_of(b, h).aead_decrypt_in_place_detached(in_out, t);
-        return keep(st, head, counts, a);
-    }
-    40
+    let Some(s) = session_of(*st, *head) else {
+        return UNSOUND;
+    };
+    keep(
+        st,
+        head,
+        counts,
+        s.aead_decrypt_in_place_detached(in_out, Tag::from_bytes(*tag))
+            .into(),
+    )
 }
 
 pub fn lafomeihu_aead_decrypt_in_place(
@@ -162,13 +143,10 @@ pub fn lafomeihu_aead_decrypt_in_place(
 ) -> u8
     ensures { let x = exported (sound head.old) st.old head.old in_out.old [] counts.old (λ s. whole (open_in_place_of s in_out.old)) in (result ≡ x.number) × ((st.new ≡ x.st) × ((head.new ≡ x.head) × ((in_out.new ≡ x.bytes) × (counts.new ≡ x.counts)))) }
 {
-    let b = *st;
-    let h = *head;
-    if sound(h) {
-        let a = session_of(b, h).aead_decrypt_in_place(in_out);
-        return keep(st, head, counts, a);
-    }
-    40
+    let Some(s) = session_of(*st, *head) else {
+        return UNSOUND;
+    };
+    keep(st, head, counts, s.aead_decrypt_in_place(in_out).into())
 }
 
 pub fn lafomeihu_verify(tag: &[u8; 16], bytes: &[u8; 16]) -> u8

@@ -1,10 +1,13 @@
 // Exported keyed calls: a session made new, the key call, ratchet, encryption and decryption.
+#![tactic(auto, using(crate::proofs::Codes::decoding), unfolding(crate::specs::Capi::exported, crate::specs::Capi::with_flags))]
+
 ghost use Rattle.std.specs.Prelude.{◌≡◌, [], ltb};
 ghost use Rattle.xoodyak.specs.Calls.{key_of, new_of, ratchet_of, encrypt_of, decrypt_of, encrypt_in_place_of, decrypt_in_place_of};
 ghost use Rattle.capi.specs.Capi.{rule_of, flag_of, sound, with_flags, exported, whole};
 
-use crate::session::{flag_of, keep, rule_of, session_of, sound, with_flags};
-use xoodyak::Session;
+use crate::code::{Code, flags};
+use crate::session::{UNSOUND, keep, session_of};
+use xoodyak::{Rule, Session};
 
 pub fn lafomeihu_new<'a>(
     st: &mut [u8; 48],
@@ -21,15 +24,23 @@ pub fn lafomeihu_new<'a>(
 ) -> u8
     ensures { let x = exported (with_flags (ltb rule 2) has_nonce has_id has_counter) st.old head.old [] [] counts.old (λ _. whole (new_of (rule_of rule) key.now (flag_of has_nonce) nonce.now (flag_of has_id) id.now (flag_of has_counter) counter.now)) in (result ≡ x.number) × ((st.new ≡ x.st) × ((head.new ≡ x.head) × (counts.new ≡ x.counts))) }
 {
-    if with_flags(rule < 2, has_nonce, has_id, has_counter) {
-        let r = rule_of(rule);
-        let m = flag_of(has_nonce);
-        let i = flag_of(has_id);
-        let c = flag_of(has_counter);
-        let a = Session::new(r, key, m, nonce, i, id, c, counter);
-        return keep(st, head, counts, a);
-    }
-    40
+    let (Some(rule), Some((has_nonce, has_id, has_counter))) = (
+        Rule::decode(rule),
+        flags(has_nonce, has_id, has_counter),
+    ) else {
+        return UNSOUND;
+    };
+    let a = Session::new(
+        rule,
+        key,
+        has_nonce,
+        nonce,
+        has_id,
+        id,
+        has_counter,
+        counter,
+    );
+    keep(st, head, counts, a.into())
 }
 
 pub fn lafomeihu_absorb_key_and_nonce<'a>(
@@ -46,28 +57,23 @@ pub fn lafomeihu_absorb_key_and_nonce<'a>(
 ) -> u8
     ensures { let x = exported (with_flags (sound head.old) has_id has_nonce has_counter) st.old head.old [] [] counts.old (λ s. whole (key_of s key.now (flag_of has_id) id.now (flag_of has_nonce) nonce.now (flag_of has_counter) counter.now)) in (result ≡ x.number) × ((st.new ≡ x.st) × ((head.new ≡ x.head) × (counts.new ≡ x.counts))) }
 {
-    let b = *st;
-    let h = *head;
-    if with_flags(sound(h), has_id, has_nonce, has_counter) {
-        let i = flag_of(has_id);
-        let m = flag_of(has_nonce);
-        let c = flag_of(has_counter);
-        let a = session_of(b, h).absorb_key_and_nonce(key, i, id, m, nonce, c, counter);
-        return keep(st, head, counts, a);
-    }
-    40
+    let (Some(s), Some((has_id, has_nonce, has_counter))) = (
+        session_of(*st, *head),
+        flags(has_id, has_nonce, has_counter),
+    ) else {
+        return UNSOUND;
+    };
+    let a = s.absorb_key_and_nonce(key, has_id, id, has_nonce, nonce, has_counter, counter);
+    keep(st, head, counts, a.into())
 }
 
 pub fn lafomeihu_ratchet(st: &mut [u8; 48], head: &mut [u8; 6], counts: &mut [usize; 3]) -> u8
     ensures { let x = exported (sound head.old) st.old head.old [] [] counts.old (λ s. whole (ratchet_of s)) in (result ≡ x.number) × ((st.new ≡ x.st) × ((head.new ≡ x.head) × (counts.new ≡ x.counts))) }
 {
-    let b = *st;
-    let h = *head;
-    if sound(h) {
-        let a = session_of(b, h).ratchet();
-        return keep(st, head, counts, a);
-    }
-    40
+    let Some(s) = session_of(*st, *head) else {
+        return UNSOUND;
+    };
+    keep(st, head, counts, s.ratchet().into())
 }
 
 pub fn lafomeihu_encrypt(
@@ -79,13 +85,10 @@ pub fn lafomeihu_encrypt(
 ) -> u8
     ensures { let x = exported (sound head.old) st.old head.old out.old [] counts.old (λ s. whole (encrypt_of s out.old bin.now)) in (result ≡ x.number) × ((st.new ≡ x.st) × ((head.new ≡ x.head) × ((out.new ≡ x.bytes) × (counts.new ≡ x.counts)))) }
 {
-    let b = *st;
-    let h = *head;
-    if sound(h) {
-        let a = session_of(b, h).encrypt(out, bin);
-        return keep(st, head, counts, a);
-    }
-    40
+    let Some(s) = session_of(*st, *head) else {
+        return UNSOUND;
+    };
+    keep(st, head, counts, s.encrypt(out, bin).into())
 }
 
 pub fn lafomeihu_decrypt(
@@ -97,13 +100,10 @@ pub fn lafomeihu_decrypt(
 ) -> u8
     ensures { let x = exported (sound head.old) st.old head.old out.old [] counts.old (λ s. whole (decrypt_of s out.old bin.now)) in (result ≡ x.number) × ((st.new ≡ x.st) × ((head.new ≡ x.head) × ((out.new ≡ x.bytes) × (counts.new ≡ x.counts)))) }
 {
-    let b = *st;
-    let h = *head;
-    if sound(h) {
-        let a = session_of(b, h).decrypt(out, bin);
-        return keep(st, head, counts, a);
-    }
-    40
+    let Some(s) = session_of(*st, *head) else {
+        return UNSOUND;
+    };
+    keep(st, head, counts, s.decrypt(out, bin).into())
 }
 
 pub fn lafomeihu_encrypt_in_place(
@@ -114,13 +114,10 @@ pub fn lafomeihu_encrypt_in_place(
 ) -> u8
     ensures { let x = exported (sound head.old) st.old head.old in_out.old [] counts.old (λ s. whole (encrypt_in_place_of s in_out.old)) in (result ≡ x.number) × ((st.new ≡ x.st) × ((head.new ≡ x.head) × ((in_out.new ≡ x.bytes) × (counts.new ≡ x.counts)))) }
 {
-    let b = *st;
-    let h = *head;
-    if sound(h) {
-        let a = session_of(b, h).encrypt_in_place(in_out);
-        return keep(st, head, counts, a);
-    }
-    40
+    let Some(s) = session_of(*st, *head) else {
+        return UNSOUND;
+    };
+    keep(st, head, counts, s.encrypt_in_place(in_out).into())
 }
 
 pub fn lafomeihu_decrypt_in_place(
@@ -131,11 +128,8 @@ pub fn lafomeihu_decrypt_in_place(
 ) -> u8
     ensures { let x = exported (sound head.old) st.old head.old in_out.old [] counts.old (λ s. whole (decrypt_in_place_of s in_out.old)) in (result ≡ x.number) × ((st.new ≡ x.st) × ((head.new ≡ x.head) × ((in_out.new ≡ x.bytes) × (counts.new ≡ x.counts)))) }
 {
-    let b = *st;
-    let h = *head;
-    if sound(h) {
-        let a = session_of(b, h).decrypt_in_place(in_out);
-        return keep(st, head, counts, a);
-    }
-    40
+    let Some(s) = session_of(*st, *head) else {
+        return UNSOUND;
+    };
+    keep(st, head, counts, s.decrypt_in_place(in_out).into())
 }

@@ -1,4 +1,5 @@
 // The static library for C and Rust: each exported call is the one of that name in crates/capi, with its promise. Here are those of the permutation.
+// Each is written out, since the C interface wants a function of its own for each name.
 #![tactic(auto)]
 
 mod aead;
