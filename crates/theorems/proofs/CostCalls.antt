@@ -22,7 +22,7 @@ use Rattle.xoodyak.specs.Numbers.{first, unfinished_number, kind_number, mode_nu
 use Rattle.xoodyak.specs.Calls.{Outcome, settle, idle, session, new_of, absorb_of, absorb_more_of, squeeze_of, squeeze_more_of, key_of, ratchet_of, encrypt_end, decrypt_end, encrypt_ups, decrypt_ups, encrypt_of, encrypt_in_place_of, decrypt_of, decrypt_in_place_of, tag_end, tag_out, same_bytes, tag_number, verdict, seal_ups, open_ups, opened, seal_detached_of, seal_of, seal_in_place_detached_of, seal_in_place_of, open_detached_of, open_of, open_in_place_detached_of, open_in_place_of}
 use Rattle.xoodyak.specs.Feed.{is_open, close_block, open_block, put, Progress, stands, ups_before, place_in, block_for, wrote, and_then, within, feed, end_block, Portion, portioned, begin_of, feed_of, ended, past_tag, finish_ups, finish_seal_of, finish_open_of}
 use Rattle.xoodyak.specs.Shares.{more_share}
-use Rattle.xoodyak.proofs.Settle.{first-zero, rate-fits, absorb-rate-fits, keyed-mode}
+use Rattle.xoodyak.proofs.Settle.{second-zero, rate-fits, absorb-rate-fits, keyed-mode}
 use Rattle.xoodyak.proofs.Costs.{absorb-share, absorb-more-share, squeeze-share, squeeze-more-share, key-share, ratchet-share, encrypt-share, decrypt-share, seal-share, open-share}
 use Rattle.xoodyak.proofs.CostsOfFeeds.{feed-follows, finish-share}
 use Rattle.walkback.specs.Walk.{Call, absorbs, absorbs_more, squeezes_more, keys, encrypts, forward, steps, unless_empty, message_phase, phase_after}
@@ -86,7 +86,7 @@ absorb-more-priced s x r =
     let c = absorbs_more x r in
     settled-cost (first (unfinished_number s) (rate_number s.duplex.mode r)) 0 s [] _ _
     (λ z. onward-cost s (forward-mode s.rule c s.duplex) (forward-phase s.rule c s.duplex)
-    (absorb-more-share r s.duplex x (rate-fits s.duplex.mode r (first-zero (unfinished_number s) _ z).1).0)) accepts
+    (absorb-more-share r s.duplex x (rate-fits s.duplex.mode r (second-zero (unfinished_number s) _ (sym z))).0)) accepts
 
 -- with either colour
 squeeze-cost : (cu : ℕ) (s : Session) (o : List ℕ) → Fair s (reported (squeeze_of cu s o)) (cost_of (view s) (squeezing (length o)))
@@ -125,7 +125,7 @@ ratchet-priced s =
     let e = squeeze_end d 16 0x10 in
     let x = squeeze_out d 16 0x10 in
     settled-cost (keyed_number s) 0 s [] _ _
-    (λ z. onward-cost s (absorb-mode 16 0 e x ∙ squeeze-mode d 16 0x10) (absorb-phase 16 0 e x) (ratchet-share d (keyed-mode s _ refl z))) accepts
+    (λ z. onward-cost s (absorb-mode 16 0 e x ∙ squeeze-mode d 16 0x10) (absorb-phase 16 0 e x) (ratchet-share d (keyed-mode s (sym z)))) accepts
 
 -- ---- messages: encrypted or decrypted, the phases are the same
 dec-phase : (bs : List (List ℕ)) (cu cv : ℕ) (d e : Duplex) → d.phase ≡ e.phase → (dec_end bs cu d).phase ≡ (enc_end bs cv e).phase

@@ -10,7 +10,8 @@ use contract.Monad.{Fun, fact, fact_i, fact_use}
 use denote.Triple.Entry.{Args, Res}
 use denote.Triple.Clauses.{Ended, AtExit, Clauses}
 use Rattle.xoodoo.specs.Xoodoo.{plane_bytes, to_bytes}
-use Rattle.xoodoo.specs.Words.{six_bytes}
+use Rattle.xoodoo.specs.Words.{six_bytes, eleven_bytes}
+use Rattle.xoodyak.proofs.Told.{told-once}
 use Rattle.theorems.proofs.Decides.{Decides, once, twice, thrice, fourfold, fivefold, sixfold}
 use Rattle.xoodoo.proofs.Xoodoo.default.Reads as xoodoo-default
 use Rattle.xoodoo.proofs.Xoodoo.default.Kinds as xoodoo-default-k
@@ -32,6 +33,14 @@ use Rattle.xoodoo.proofs.Xoodoo.rounds.Reads as xoodoo-rounds
 use Rattle.xoodoo.proofs.Xoodoo.rounds.Kinds as xoodoo-rounds-k
 use Rattle.xoodoo.proofs.Xoodoo.unrounds.Reads as xoodoo-unrounds
 use Rattle.xoodoo.proofs.Xoodoo.unrounds.Kinds as xoodoo-unrounds-k
+use Rattle.xoodoo.proofs.plane.PlaneNot.not.Reads as plane-not
+use Rattle.xoodoo.proofs.plane.PlaneNot.not.Kinds as plane-not-k
+use Rattle.xoodoo.proofs.plane.PlaneBitAnd.bitand.Reads as plane-bitand
+use Rattle.xoodoo.proofs.plane.PlaneBitAnd.bitand.Kinds as plane-bitand-k
+use Rattle.xoodoo.proofs.plane.PlaneBitOr.bitor.Reads as plane-bitor
+use Rattle.xoodoo.proofs.plane.PlaneBitOr.bitor.Kinds as plane-bitor-k
+use Rattle.xoodoo.proofs.plane.PlaneBitXor.bitxor.Reads as plane-bitxor
+use Rattle.xoodoo.proofs.plane.PlaneBitXor.bitxor.Kinds as plane-bitxor-k
 use Rattle.xoodoo.proofs.words.to_words.Reads as to-words
 use Rattle.xoodoo.proofs.words.to_words.Kinds as to-words-k
 use Rattle.xoodoo.proofs.words.from_words.Reads as from-words
@@ -40,22 +49,24 @@ use Rattle.xoodoo.proofs.words.permute_bytes.Reads as permute-bytes
 use Rattle.xoodoo.proofs.words.permute_bytes.Kinds as permute-bytes-k
 use Rattle.xoodoo.proofs.words.permute_words.Reads as permute-words
 use Rattle.xoodoo.proofs.words.permute_words.Kinds as permute-words-k
-use Rattle.xoodoo.proofs.words.front4.Reads as front4
-use Rattle.xoodoo.proofs.words.front4.Kinds as front4-k
-use Rattle.xoodoo.proofs.words.front6.Reads as front6
-use Rattle.xoodoo.proofs.words.front6.Kinds as front6-k
-use Rattle.xoodoo.proofs.words.add4.Reads as add4
-use Rattle.xoodoo.proofs.words.add4.Kinds as add4-k
-use Rattle.xoodoo.proofs.words.add6.Reads as add6
-use Rattle.xoodoo.proofs.words.add6.Kinds as add6-k
-use Rattle.xoodoo.proofs.words.add11.Reads as add11
-use Rattle.xoodoo.proofs.words.add11.Kinds as add11-k
-use Rattle.xoodoo.proofs.words.pad16.Reads as pad16
-use Rattle.xoodoo.proofs.words.pad16.Kinds as pad16-k
-use Rattle.xoodoo.proofs.words.pad24.Reads as pad24
-use Rattle.xoodoo.proofs.words.pad24.Kinds as pad24-k
-use Rattle.xoodoo.proofs.words.pad44.Reads as pad44
-use Rattle.xoodoo.proofs.words.pad44.Kinds as pad44-k
+use Rattle.xoodoo.proofs.words.PlaneBlock.front.Reads as plane-front
+use Rattle.xoodoo.proofs.words.PlaneBlock.front.Kinds as plane-front-k
+use Rattle.xoodoo.proofs.words.SixBlock.front.Reads as six-front
+use Rattle.xoodoo.proofs.words.SixBlock.front.Kinds as six-front-k
+use Rattle.xoodoo.proofs.words.ElevenBlock.front.Reads as eleven-front
+use Rattle.xoodoo.proofs.words.ElevenBlock.front.Kinds as eleven-front-k
+use Rattle.xoodoo.proofs.words.PlaneBlock.add.Reads as plane-add
+use Rattle.xoodoo.proofs.words.PlaneBlock.add.Kinds as plane-add-k
+use Rattle.xoodoo.proofs.words.SixBlock.add.Reads as six-add
+use Rattle.xoodoo.proofs.words.SixBlock.add.Kinds as six-add-k
+use Rattle.xoodoo.proofs.words.ElevenBlock.add.Reads as eleven-add
+use Rattle.xoodoo.proofs.words.ElevenBlock.add.Kinds as eleven-add-k
+use Rattle.xoodoo.proofs.words.PlaneBlock.pad.Reads as plane-pad
+use Rattle.xoodoo.proofs.words.PlaneBlock.pad.Kinds as plane-pad-k
+use Rattle.xoodoo.proofs.words.SixBlock.pad.Reads as six-pad
+use Rattle.xoodoo.proofs.words.SixBlock.pad.Kinds as six-pad-k
+use Rattle.xoodoo.proofs.words.ElevenBlock.pad.Reads as eleven-pad
+use Rattle.xoodoo.proofs.words.ElevenBlock.pad.Kinds as eleven-pad-k
 use Rattle.xoodoo.proofs.words.colour.Reads as colour
 use Rattle.xoodoo.proofs.words.colour.Kinds as colour-k
 use Rattle.xoodyak.proofs.Session.hash.Reads as hash
@@ -118,6 +129,28 @@ use Rattle.xoodyak.proofs.tag.Tag.into_bytes.Reads as tag-into-bytes
 use Rattle.xoodyak.proofs.tag.Tag.into_bytes.Kinds as tag-into-bytes-k
 use Rattle.xoodyak.proofs.tag.Tag.verify.Reads as tag-verify
 use Rattle.xoodyak.proofs.tag.Tag.verify.Kinds as tag-verify-k
+use Rattle.xoodyak.proofs.cyclist.Mode.absorb_rate.Reads as mode-absorb-rate
+use Rattle.xoodyak.proofs.cyclist.Mode.absorb_rate.Kinds as mode-absorb-rate-k
+use Rattle.xoodyak.proofs.cyclist.Mode.squeeze_rate.Reads as mode-squeeze-rate
+use Rattle.xoodyak.proofs.cyclist.Mode.squeeze_rate.Kinds as mode-squeeze-rate-k
+use Rattle.xoodyak.proofs.cyclist.Mode.down_colour.Reads as mode-down-colour
+use Rattle.xoodyak.proofs.cyclist.Mode.down_colour.Kinds as mode-down-colour-k
+use Rattle.xoodyak.proofs.cyclist.Mode.keyed.Reads as mode-keyed
+use Rattle.xoodyak.proofs.cyclist.Mode.keyed.Kinds as mode-keyed-k
+use Rattle.xoodyak.proofs.cyclist.Mode.takes.Reads as mode-takes
+use Rattle.xoodyak.proofs.cyclist.Mode.takes.Kinds as mode-takes-k
+use Rattle.xoodyak.proofs.Rule.is_empty_block.Reads as rule-is-empty-block
+use Rattle.xoodyak.proofs.Rule.is_empty_block.Kinds as rule-is-empty-block-k
+use Rattle.xoodyak.proofs.numbers.key_lengths.Reads as key-lengths
+use Rattle.xoodyak.proofs.numbers.key_lengths.Kinds as key-lengths-k
+use Rattle.xoodyak.proofs.bytes.or_empty.Reads as or-empty
+use Rattle.xoodyak.proofs.bytes.or_empty.Kinds as or-empty-k
+use Rattle.xoodyak.proofs.bytes.choose.Reads as choose
+use Rattle.xoodyak.proofs.bytes.choose.Kinds as choose-k
+use Rattle.xoodyak.proofs.numbers.Refusal.number.Reads as refusal-number
+use Rattle.xoodyak.proofs.numbers.Refusal.number.Kinds as refusal-number-k
+use Rattle.xoodyak.proofs.numbers.Refusal.missing.Reads as refusal-missing
+use Rattle.xoodyak.proofs.numbers.Refusal.missing.Kinds as refusal-missing-k
 use Rattle.face.specs.contracts.hash.absorb as lent-absorb
 use Rattle.face.specs.contracts.hash.absorb_more as lent-absorb-more
 use Rattle.face.specs.contracts.hash.squeeze as lent-squeeze
@@ -273,6 +306,19 @@ xoodoo-rounds-decided κs a x x' e e' = once
 pub xoodoo-unrounds-decided : Decides 0 xoodoo-unrounds-k.ps xoodoo-unrounds-k.r xoodoo-unrounds.Post (λ κs x x' e e'. x ≡ x')
 xoodoo-unrounds-decided κs a x x' e e' = once
 
+-- ---- a plane's operators
+pub plane-not-decided : Decides 0 plane-not-k.ps plane-not-k.r plane-not.Post (λ κs x x' e e'. x ≡ x')
+plane-not-decided κs a x x' e e' = once
+
+pub plane-bitand-decided : Decides 0 plane-bitand-k.ps plane-bitand-k.r plane-bitand.Post (λ κs x x' e e'. x ≡ x')
+plane-bitand-decided κs a x x' e e' = once
+
+pub plane-bitor-decided : Decides 0 plane-bitor-k.ps plane-bitor-k.r plane-bitor.Post (λ κs x x' e e'. x ≡ x')
+plane-bitor-decided κs a x x' e e' = once
+
+pub plane-bitxor-decided : Decides 0 plane-bitxor-k.ps plane-bitxor-k.r plane-bitxor.Post (λ κs x x' e e'. x ≡ x')
+plane-bitxor-decided κs a x x' e e' = once
+
 -- ---- sessions
 -- words are promised, and so decided, by their bytes
 pub to-words-decided : Decides 1 to-words-k.ps to-words-k.r to-words.Post (λ κs x x' e e'. to_bytes x ≡ to_bytes x')
@@ -287,29 +333,33 @@ permute-bytes-decided κs a x x' e e' = once
 pub permute-words-decided : Decides 0 permute-words-k.ps permute-words-k.r permute-words.Post (λ κs x x' e e'. to_bytes x ≡ to_bytes x')
 permute-words-decided κs a x x' e e' = once
 
-pub front4-decided : Decides 0 front4-k.ps front4-k.r front4.Post (λ κs x x' e e'. plane_bytes x ≡ plane_bytes x')
-front4-decided κs a x x' e e' = once
+-- the methods of a block, at each type of block
+pub plane-front-decided : Decides 0 plane-front-k.ps plane-front-k.r plane-front.Post (λ κs x x' e e'. plane_bytes x ≡ plane_bytes x')
+plane-front-decided κs a x x' e e' = once
 
-pub front6-decided : Decides 0 front6-k.ps front6-k.r front6.Post (λ κs x x' e e'. six_bytes x ≡ six_bytes x')
-front6-decided κs a x x' e e' = once
+pub six-front-decided : Decides 0 six-front-k.ps six-front-k.r six-front.Post (λ κs x x' e e'. six_bytes x ≡ six_bytes x')
+six-front-decided κs a x x' e e' = once
 
-pub add4-decided : Decides 0 add4-k.ps add4-k.r add4.Post (λ κs x x' e e'. to_bytes x ≡ to_bytes x')
-add4-decided κs a x x' e e' = once
+pub eleven-front-decided : Decides 0 eleven-front-k.ps eleven-front-k.r eleven-front.Post (λ κs x x' e e'. eleven_bytes x ≡ eleven_bytes x')
+eleven-front-decided κs a x x' e e' = once
 
-pub add6-decided : Decides 0 add6-k.ps add6-k.r add6.Post (λ κs x x' e e'. to_bytes x ≡ to_bytes x')
-add6-decided κs a x x' e e' = once
+pub plane-add-decided : Decides 0 plane-add-k.ps plane-add-k.r plane-add.Post (λ κs x x' e e'. to_bytes x ≡ to_bytes x')
+plane-add-decided κs a x x' e e' = once
 
-pub add11-decided : Decides 0 add11-k.ps add11-k.r add11.Post (λ κs x x' e e'. to_bytes x ≡ to_bytes x')
-add11-decided κs a x x' e e' = once
+pub six-add-decided : Decides 0 six-add-k.ps six-add-k.r six-add.Post (λ κs x x' e e'. to_bytes x ≡ to_bytes x')
+six-add-decided κs a x x' e e' = once
 
-pub pad16-decided : Decides 0 pad16-k.ps pad16-k.r pad16.Post (λ κs x x' e e'. to_bytes x ≡ to_bytes x')
-pad16-decided κs a x x' e e' = once
+pub eleven-add-decided : Decides 0 eleven-add-k.ps eleven-add-k.r eleven-add.Post (λ κs x x' e e'. to_bytes x ≡ to_bytes x')
+eleven-add-decided κs a x x' e e' = once
 
-pub pad24-decided : Decides 0 pad24-k.ps pad24-k.r pad24.Post (λ κs x x' e e'. to_bytes x ≡ to_bytes x')
-pad24-decided κs a x x' e e' = once
+pub plane-pad-decided : Decides 0 plane-pad-k.ps plane-pad-k.r plane-pad.Post (λ κs x x' e e'. to_bytes x ≡ to_bytes x')
+plane-pad-decided κs a x x' e e' = once
 
-pub pad44-decided : Decides 0 pad44-k.ps pad44-k.r pad44.Post (λ κs x x' e e'. to_bytes x ≡ to_bytes x')
-pad44-decided κs a x x' e e' = once
+pub six-pad-decided : Decides 0 six-pad-k.ps six-pad-k.r six-pad.Post (λ κs x x' e e'. to_bytes x ≡ to_bytes x')
+six-pad-decided κs a x x' e e' = once
+
+pub eleven-pad-decided : Decides 0 eleven-pad-k.ps eleven-pad-k.r eleven-pad.Post (λ κs x x' e e'. to_bytes x ≡ to_bytes x')
+eleven-pad-decided κs a x x' e e' = once
 
 pub colour-decided : Decides 0 colour-k.ps colour-k.r colour.Post (λ κs x x' e e'. to_bytes x ≡ to_bytes x')
 colour-decided κs a x x' e e' = once
@@ -486,6 +536,39 @@ tag-into-bytes-decided κs a x x' e e' = once
 
 pub tag-verify-decided : Decides 0 tag-verify-k.ps tag-verify-k.r tag-verify.Post (λ κs x x' e e'. x ≡ x')
 tag-verify-decided κs a x x' e e' = once
+
+pub mode-absorb-rate-decided : Decides 0 mode-absorb-rate-k.ps mode-absorb-rate-k.r mode-absorb-rate.Post (λ κs x x' e e'. x ≡ x')
+mode-absorb-rate-decided κs a x x' e e' = once
+
+pub mode-squeeze-rate-decided : Decides 0 mode-squeeze-rate-k.ps mode-squeeze-rate-k.r mode-squeeze-rate.Post (λ κs x x' e e'. x ≡ x')
+mode-squeeze-rate-decided κs a x x' e e' = once
+
+pub mode-down-colour-decided : Decides 0 mode-down-colour-k.ps mode-down-colour-k.r mode-down-colour.Post (λ κs x x' e e'. x ≡ x')
+mode-down-colour-decided κs a x x' e e' = once
+
+pub mode-keyed-decided : Decides 0 mode-keyed-k.ps mode-keyed-k.r mode-keyed.Post (λ κs x x' e e'. x ≡ x')
+mode-keyed-decided κs a x x' e e' = told-once x x'
+
+pub mode-takes-decided : Decides 0 mode-takes-k.ps mode-takes-k.r mode-takes.Post (λ κs x x' e e'. x ≡ x')
+mode-takes-decided κs a x x' e e' = told-once x x'
+
+pub rule-is-empty-block-decided : Decides 0 rule-is-empty-block-k.ps rule-is-empty-block-k.r rule-is-empty-block.Post (λ κs x x' e e'. x ≡ x')
+rule-is-empty-block-decided κs a x x' e e' = once
+
+pub key-lengths-decided : Decides 0 key-lengths-k.ps key-lengths-k.r key-lengths.Post (λ κs x x' e e'. x ≡ x')
+key-lengths-decided κs a x x' e e' = told-once x x'
+
+pub or-empty-decided : Decides 1 or-empty-k.ps or-empty-k.r or-empty.Post (λ κs x x' e e'. x.now ≡ x'.now)
+or-empty-decided κs a x x' e e' = once
+
+pub choose-decided : Decides 1 choose-k.ps choose-k.r choose.Post (λ κs x x' e e'. x.now ≡ x'.now)
+choose-decided κs a x x' e e' = once
+
+pub refusal-number-decided : Decides 0 refusal-number-k.ps refusal-number-k.r refusal-number.Post (λ κs x x' e e'. x ≡ x')
+refusal-number-decided κs a x x' e e' = once
+
+pub refusal-missing-decided : Decides 0 refusal-missing-k.ps refusal-missing-k.r refusal-missing.Post (λ κs x x' e e'. x ≡ x')
+refusal-missing-decided κs a x x' e e' = once
 
 -- ---- walking back
 pub back-absorb-decided : Decides 1 back-absorb-k.ps back-absorb-k.r back-absorb.Post (λ κs x x' e e'. x ≡ x')

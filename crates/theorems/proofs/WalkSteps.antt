@@ -25,8 +25,8 @@ use Rattle.xoodyak.specs.Cyclist.{absorb_rate, squeeze_rate, up_colour, down_col
 use Rattle.xoodyak.specs.Numbers.{mode_number}
 use Rattle.walkback.specs.Steps.{Step, up_step, down_step, does, undoes, run, undo, block_steps, ready_steps, absorb_block_steps, absorb_steps, next_steps, squeeze_more_steps, squeeze_steps}
 use Rattle.walkback.specs.Walk.{Call, absorbs, absorbs_more, squeezes, squeezes_key, squeezes_more, keys, encrypts, seals, call_number, forward, if_steps, key_run, key_steps, steps, unless_empty, message_phase, phase_after, of_bytes}
+use Rattle.xoodyak.proofs.Settle.{key_fits, second-zero}
 use Rattle.walkback.proofs.Undoing.{chosen-length}
-use Rattle.walkback.proofs.Settling.{key-bounds}
 
 -- ---- one step and its undoing
 -- a step whose colour and data are bytes
@@ -197,7 +197,7 @@ call-bytes rule m p (keys key has_id id has_nonce nonce has_counter counter) n k
     let o = given has_nonce nonce in
     let bi = given-bytes has_id id k.1 in
     let bo = given-bytes has_nonce nonce k.2 in
-    let h = key-bounds (mode_number m) (length key) (length i) (length o) n in
+    let h = key_fits (length key) (length i) (length o) (second-zero (mode_number m) _ (sym n)) in
     let l : length (chosen has_id i o) < 256 = omega (arith, chosen-length has_id i o, h) in
     all-steps (absorb_steps p 44 2 (key_run key (chosen has_id i o))) _
     (absorb-steps p 44 2 (key_run key (chosen has_id i o)) (lit< tt) (key-run-bytes key (chosen has_id i o) l k.0 (chosen-bytes has_id i o bi bo)))
