@@ -1,148 +1,93 @@
 // The lines that seal and open.
-use crate::crypt_lines::{CopyingCall, InPlaceCall, copying, in_place};
-use crate::out;
-use crate::out::Out;
-use crate::session_lines::{Held, bad, hold};
-use crate::words::{bytes, exactly, first, optional, rest, room, space};
-use check::same;
-use std::io;
+use crate::runner::Runner;
+use crate::show::{Hex, Number};
+use crate::words::{Fault, bytes, exactly, optional, room};
 use std::io::Write;
+use xoodyak::Sealed;
 use xoodyak::aead::plaintext_part;
 use xoodyak::tag::Tag;
 
-// aead_encrypt_detached, and aead_encrypt.
-fn encrypt<W: Write>(h: Held, detached: bool, words: &[u8], out: &mut Out<W>) -> io::Result<Held> {
-    let mut store = space();
-    let length = room(first(words), &store);
-    let n = length.n;
-    let mut bin = space();
-    let given = optional(rest(words), &mut bin);
-    let m = given.n;
-    if !(length.ok && given.ok) {
-        return bad(h, out);
+impl<W: Write> Runner<W> {
+    fn show_sealed(&mut self, sealed: Sealed, buf: &[u8]) -> Result<(), Fault> {
+        let number = Number(sealed.number, sealed.missing);
+        let tag = sealed.tag.into_bytes();
+        writeln!(self.out, "{number} {} {}", Hex(buf), Hex(&tag))?;
+        self.hold(sealed.session, sealed.spent);
+        Ok(())
     }
-    let s = h.session;
-    let buf = &mut store[0..n];
-    if detached {
-        let r = s.aead_encrypt_detached(buf, given.has, &bin[0..m]);
-        let tag = r.tag.into_bytes();
-        out::number_buf_tag(out, r.number, r.missing, buf, &tag)?;
-        return Ok(hold(r.session, r.spent));
-    }
-    let r = s.aead_encrypt(buf, given.has, &bin[0..m]);
-    out::number_buf(out, r.number, r.missing, buf)?;
-    Ok(hold(r.session, r.spent))
-}
 
-fn decrypt_detached<W: Write>(h: Held, words: &[u8], out: &mut Out<W>) -> io::Result<Held> {
-    let after = rest(words);
-    let mut store = space();
-    let length = room(first(words), &store);
-    let n = length.n;
-    let mut tag = [0u8; 16];
-    let whole = exactly(first(after), &mut tag);
-    let mut bin = space();
-    let given = optional(rest(after), &mut bin);
-    let m = given.n;
-    if !(length.ok && whole && given.ok) {
-        return bad(h, out);
+    fn seal_detached(&mut self, n: &str, bin: &str) -> Result<(), Fault> {
+        let mut buf = room(self.alloc, n)?;
+        let bin = optional(self.alloc, bin)?;
+        let sealed = self
+            .session
+            .aead_encrypt_detached(buf.as_mut_slice(), bin.given, bin.bytes.as_slice());
+        self.show_sealed(sealed, buf.as_slice())
     }
-    let s = h.session;
-    let buf = &mut store[0..n];
-    let r = s.aead_decrypt_detached(buf, Tag::from_bytes(tag), given.has, &bin[0..m]);
-    out::number_buf(out, r.number, r.missing, buf)?;
-    Ok(hold(r.session, r.spent))
-}
 
-fn encrypt_in_place_detached<W: Write>(
-    h: Held,
-    words: &[u8],
-    out: &mut Out<W>,
-) -> io::Result<Held> {
-    let mut store = space();
-    let got = bytes(words, &mut store);
-    let n = got.n;
-    if !got.ok {
-        return bad(h, out);
+    fn seal(&mut self, n: &str, bin: &str) -> Result<(), Fault> {
+        let mut buf = room(self.alloc, n)?;
+        let bin = optional(self.alloc, bin)?;
+        let answer = self
+            .session
+            .aead_encrypt(buf.as_mut_slice(), bin.given, bin.bytes.as_slice());
+        self.show(answer, buf.as_slice())
     }
-    let s = h.session;
-    let buf = &mut store[0..n];
-    let r = s.aead_encrypt_in_place_detached(buf);
-    let tag = r.tag.into_bytes();
-    out::number_buf_tag(out, r.number, r.missing, buf, &tag)?;
-    Ok(hold(r.session, r.spent))
-}
 
-fn decrypt_in_place_detached<W: Write>(
-    h: Held,
-    words: &[u8],
-    out: &mut Out<W>,
-) -> io::Result<Held> {
-    let mut store = space();
-    let got = bytes(first(words), &mut store);
-    let n = got.n;
-    let mut tag = [0u8; 16];
-    let whole = exactly(rest(words), &mut tag);
-    if !(got.ok && whole) {
-        return bad(h, out);
+    fn seal_in_place_detached(&mut self, bin: &str) -> Result<(), Fault> {
+        let mut buf = bytes(self.alloc, bin)?;
+        let sealed = self
+            .session
+            .aead_encrypt_in_place_detached(buf.as_mut_slice());
+        self.show_sealed(sealed, buf.as_slice())
     }
-    let s = h.session;
-    let buf = &mut store[0..n];
-    let r = s.aead_decrypt_in_place_detached(buf, Tag::from_bytes(tag));
-    out::number_buf(out, r.number, r.missing, buf)?;
-    Ok(hold(r.session, r.spent))
-}
 
-fn plaintext<W: Write>(buf: &mut [u8], out: &mut Out<W>) -> io::Result<()> {
-    let part = plaintext_part(buf);
-    out::last(out, part)
-}
+    fn open_detached(&mut self, n: &str, tag: &str, bin: &str) -> Result<(), Fault> {
+        let mut buf = room(self.alloc, n)?;
+        let tag = Tag::from_bytes(exactly(self.alloc, tag)?);
+        let bin = optional(self.alloc, bin)?;
+        let answer = self
+            .session
+            .aead_decrypt_detached(buf.as_mut_slice(), tag, bin.given, bin.bytes.as_slice());
+        self.show(answer, buf.as_slice())
+    }
 
-fn decrypt_in_place<W: Write>(h: Held, words: &[u8], out: &mut Out<W>) -> io::Result<Held> {
-    let mut store = space();
-    let got = bytes(words, &mut store);
-    let n = got.n;
-    if !got.ok {
-        return bad(h, out);
+    fn open_in_place_detached(&mut self, bin: &str, tag: &str) -> Result<(), Fault> {
+        let tag = Tag::from_bytes(exactly(self.alloc, tag)?);
+        self.in_place(bin, |s, buf| s.aead_decrypt_in_place_detached(buf, tag))
     }
-    let s = h.session;
-    let buf = &mut store[0..n];
-    let r = s.aead_decrypt_in_place(buf);
-    if r.number != 0 {
-        out::number_buf_more(out, r.number, r.missing, buf, b"")?;
-        return Ok(hold(r.session, r.spent));
-    }
-    out::number_then_buf(out, r.number, r.missing, buf)?;
-    plaintext(buf, out)?;
-    Ok(hold(r.session, r.spent))
-}
 
-pub fn answer<W: Write>(h: Held, line: &[u8], out: &mut Out<W>) -> io::Result<Held> {
-    let name = first(line);
-    let words = rest(line);
-    if same(name, b"aead_encrypt_detached") {
-        return encrypt(h, true, words, out);
+    // The plaintext is the part of the buffer that the caller is handed back, and nothing where the call is refused.
+    fn open_in_place(&mut self, bin: &str) -> Result<(), Fault> {
+        let mut buf = bytes(self.alloc, bin)?;
+        let answer = self.session.aead_decrypt_in_place(buf.as_mut_slice());
+        let number = Number(answer.number, answer.missing);
+        write!(self.out, "{number} {} ", Hex(buf.as_slice()))?;
+        let part = plaintext_part(buf.as_mut_slice());
+        let plaintext: &[u8] = if answer.number == 0 { part } else { &[] };
+        writeln!(self.out, "{}", Hex(plaintext))?;
+        self.hold(answer.session, answer.spent);
+        Ok(())
     }
-    if same(name, b"aead_encrypt") {
-        return encrypt(h, false, words, out);
+
+    pub fn aead_line(&mut self, words: &[&str]) -> Result<(), Fault> {
+        match words {
+            ["aead_encrypt_detached", n, bin] => self.seal_detached(n, bin),
+            ["aead_encrypt", n, bin] => self.seal(n, bin),
+            ["aead_decrypt_detached", n, tag, bin] => self.open_detached(n, tag, bin),
+            ["aead_decrypt", n, bin] => self.copying(
+                n,
+                bin,
+                |s, out, bin| s.aead_decrypt(out, bin),
+            ),
+            ["aead_encrypt_in_place_detached", bin] => self.seal_in_place_detached(bin),
+            ["aead_encrypt_in_place", bin] => self.in_place(
+                bin,
+                |s, buf| s.aead_encrypt_in_place(buf),
+            ),
+            ["aead_decrypt_in_place_detached", bin, tag] => self.open_in_place_detached(bin, tag),
+            ["aead_decrypt_in_place", bin] => self.open_in_place(bin),
+            _ => Err(Fault::Bad),
+        }
     }
-    if same(name, b"aead_decrypt_detached") {
-        return decrypt_detached(h, words, out);
-    }
-    if same(name, b"aead_decrypt") {
-        return copying(h, CopyingCall::Open, words, out);
-    }
-    if same(name, b"aead_encrypt_in_place_detached") {
-        return encrypt_in_place_detached(h, words, out);
-    }
-    if same(name, b"aead_encrypt_in_place") {
-        return in_place(h, InPlaceCall::Seal, words, out);
-    }
-    if same(name, b"aead_decrypt_in_place_detached") {
-        return decrypt_in_place_detached(h, words, out);
-    }
-    if same(name, b"aead_decrypt_in_place") {
-        return decrypt_in_place(h, words, out);
-    }
-    bad(h, out)
 }
