@@ -1,4 +1,5 @@
 // Exported calls that seal or open with a tag, and the comparison of tags.
+// Numbers, kinds and flags are bytes: the C interface.
 #![tactic(auto, using(crate::proofs::Codes::decoding), unfolding(crate::specs::Capi::exported, crate::specs::Capi::sound_with))]
 
 ghost use Rattle.std.specs.Prelude.{◌≡◌, []};

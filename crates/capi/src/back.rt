@@ -1,5 +1,6 @@
 // Exported steps back on a session that is the caller's: its 48 bytes are those after the call, and the phase is a number for
 // the phase before it.
+// Numbers, kinds and flags are bytes: the C interface.
 #![tactic(auto, unfolding(crate::specs::Back::exported_back))]
 
 ghost use Rattle.std.specs.Prelude.{◌≡◌, false, IsTrue, get_or};

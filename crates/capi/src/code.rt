@@ -11,7 +11,7 @@ use xoodyak::Rule;
 use xoodyak::cyclist::{Mode, Phase};
 use xoodyak::feed::Kind;
 
-// No `TryFrom<u8>`: trait and enums are other crates', and an impl must name a type of this one.
+// No `TryFrom<u8>`: trait and enums are other crates', and an impl must name a type of this one; xoodyak, whose enums they are, knows no numbers of C.
 pub(crate) trait Code: Copy {
     ghost value: { ℕ → Self };
 

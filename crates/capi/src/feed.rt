@@ -1,4 +1,5 @@
 // Exported calls that seal or open a message handed over bit by bit. A kind is 0 to seal and 1 to open.
+// Numbers, kinds and flags are bytes: the C interface.
 #![tactic(auto, using(crate::proofs::Codes::decoding, crate::proofs::Finishes::none_sealing, crate::proofs::Finishes::none_opening), unfolding(crate::specs::Capi::exported, crate::specs::Capi::sound_with))]
 
 ghost use Rattle.std.specs.Prelude.{◌≡◌, []};

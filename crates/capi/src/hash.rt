@@ -1,4 +1,5 @@
 // Exported calls that both modes have, on a session that is the caller's.
+// Numbers, kinds and flags are bytes: the C interface.
 #![tactic(auto, using(crate::proofs::Codes::decoding), unfolding(crate::specs::Capi::exported))]
 
 ghost use Rattle.std.specs.Prelude.{◌≡◌, [], ltb};

@@ -1,4 +1,5 @@
 // Exported keyed calls: a session made new, the key call, ratchet, encryption and decryption.
+// Numbers, kinds and flags are bytes: the C interface.
 #![tactic(auto, using(crate::proofs::Codes::decoding), unfolding(crate::specs::Capi::exported, crate::specs::Capi::with_flags))]
 
 ghost use Rattle.std.specs.Prelude.{◌≡◌, [], ltb};

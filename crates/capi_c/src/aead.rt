@@ -1,4 +1,5 @@
 // Exported calls that seal or open with a tag, and the comparison of tags.
+// Numbers, kinds and flags are bytes: the C interface.
 ghost use Rattle.std.specs.Prelude.{◌≡◌, []};
 ghost use Rattle.xoodyak.specs.Cyclist.{given};
 ghost use Rattle.xoodyak.specs.Calls.{seal_detached_of, seal_of, open_detached_of, open_of, seal_in_place_detached_of, seal_in_place_of, open_in_place_detached_of, open_in_place_of, verify_of};

@@ -1,5 +1,6 @@
 // Exported steps back on a session that is the caller's: its 48 bytes are those after the call, and the phase is a number for
 // the phase before it.
+// Numbers, kinds and flags are bytes: the C interface.
 ghost use Rattle.std.specs.Prelude.{◌≡◌};
 ghost use Rattle.walkback.specs.Walk.{absorbs, absorbs_more, squeezes, squeezes_key, squeezes_more, keys, encrypts, seals};
 ghost use Rattle.capi.specs.Capi.{flag_of, sound_with, with_flags};

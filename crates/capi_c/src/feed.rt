@@ -1,4 +1,5 @@
 // Exported calls that seal or open a message handed over bit by bit. A kind is 0 to seal and 1 to open.
+// Numbers, kinds and flags are bytes: the C interface.
 ghost use Rattle.std.specs.Prelude.{◌≡◌, []};
 ghost use Rattle.xoodyak.specs.Feed.{begin_of, feed_of, finish_seal_of, finish_open_of};
 ghost use Rattle.capi.specs.Capi.{kind_of, sound, sound_with, exported, whole};

@@ -1,4 +1,5 @@
 // Exported calls that both modes have, on a session that is the caller's.
+// Numbers, kinds and flags are bytes: the C interface.
 ghost use Rattle.std.specs.Prelude.{◌≡◌, [], ltb};
 ghost use Rattle.xoodyak.specs.declared.cyclist.Mode.TheVariants.{Hash};
 ghost use Rattle.xoodyak.specs.Calls.{taken, session, no_tag, absorb_of, absorb_more_of, squeeze_of, squeeze_more_of};

@@ -1,4 +1,5 @@
 // Exported keyed calls: a session made new, the key call, ratchet, encryption and decryption.
+// Numbers, kinds and flags are bytes: the C interface.
 ghost use Rattle.std.specs.Prelude.{◌≡◌, [], ltb};
 ghost use Rattle.xoodyak.specs.Calls.{key_of, new_of, ratchet_of, encrypt_of, decrypt_of, encrypt_in_place_of, decrypt_in_place_of};
 ghost use Rattle.capi.specs.Capi.{rule_of, flag_of, sound, with_flags, exported, whole};

@@ -1,4 +1,5 @@
 // Sealing and opening, detached or with the tag after the ciphertext, by copy or in place.
+// What is optional is a flag and a slice, as in the core's calls.
 ghost use Rattle.std.specs.Prelude.{◌≡◌};
 ghost use Rattle.xoodyak.specs.Cyclist.{given};
 ghost use Rattle.xoodyak.specs.Calls.{seal_detached_of, seal_of, seal_in_place_detached_of, seal_in_place_of, open_detached_of, open_of, open_in_place_detached_of, open_in_place_of};

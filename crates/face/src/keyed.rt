@@ -1,4 +1,5 @@
 // Keyed sessions: the key call, ratchet, encryption and decryption.
+// What is optional is a flag and a slice, as in the core's calls.
 ghost use Rattle.std.specs.Prelude.{◌≡◌};
 ghost use Rattle.xoodyak.specs.Calls.{key_of, ratchet_of, encrypt_of, decrypt_of, encrypt_in_place_of, decrypt_in_place_of};
 ghost use Rattle.face.specs.Face.{reply_of};

@@ -94,7 +94,7 @@ pub fn squeeze(st: [u8; 48], rule: Rule, mode: Mode, phase: Phase, n: usize) -> 
     Before::accepted(undo.st)
 }
 
-// Squeeze with another colour: each is a public call.
+// Squeeze with another colour: a third function for both would be as long as each.
 pub fn squeeze_key(st: [u8; 48], rule: Rule, mode: Mode, phase: Phase, n: usize) -> Before
     ensures { result ≡ before_of rule mode phase (squeezes_key n) st }
 {

@@ -73,7 +73,7 @@ impl Undo {
         self.up(cu);
     }
 
-    // All blocks of a run, cu being the colour of the first.
+    // All blocks of a run, cu being the colour of the first. Rates and lengths are bounded in each contract, as in xoodyak's cyclist.rt.
     pub(crate) fn blocks(&mut self, bin: &[u8], rate: usize, cu: u8)
         requires { (0 < rate) × (rate ≤ 44) }
         ensures { self.new ≡ undone (block_steps cu (cuts rate bin.now)) self.old }

@@ -12,7 +12,7 @@ pub(crate) fn not_one(s: State) -> State
     State { p0: !s.p0, ..s }
 }
 
-// From plane 0 complemented to planes 0 and 1.
+// From plane 0 complemented to planes 0 and 1. Each chi has operators of its own, so no one function serves two.
 pub(crate) fn chi_to_two(s: State) -> State
     ensures { result ≡ not_two (xoodoo.chi (not_one s)) }
 {

@@ -106,6 +106,7 @@ impl Xoodoo {
         Answer::done(Self { st })
     }
 
+    // A number, as in an `Answer`: the state stays.
     pub fn extract_bytes(self, out: &mut [u8]) -> u8
         ensures value { result ≡ (extract_bytes_of self out.old).number }
         ensures out_after { out.new ≡ (extract_bytes_of self out.old).bytes }

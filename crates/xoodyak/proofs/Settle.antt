@@ -98,7 +98,7 @@ module _ (key id nonce : ℕ) where
   unfolding key_number
   key_fits e = ltb-false _ _ (when-zero _ 8 (first-zero (when (ltb 43 (key + id)) 8) _ (first-zero (when (ltb 43 key) 2) _ e).1).1)
 
--- what the code of `key_number` is proved by, whatever its tests are
+-- what the code of `key_lengths` is proved by, whatever its tests are
 pub ruleset key_numbers = (key-over, id-over, nonce-over, key-within)
 
 module _ (room result : ℕ) where

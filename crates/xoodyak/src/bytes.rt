@@ -4,7 +4,7 @@ ghost use Rattle.laws.specs.Lists.{add_front};
 ghost use Rattle.xoodyak.specs.Cyclist.{given, chosen};
 ghost use Rattle.xoodyak.specs.Calls.{same_bytes};
 
-// Adds src to the front of dst. By index: of what iter_mut().zip() writes, no proof knows what it is after.
+// Adds src to the front of dst. By index: tried with iter_mut().zip(), `returns` stayed open, since nothing is known of what an adapter lends.
 pub(crate) fn xor_into(dst: &mut [u8], src: &[u8])
     requires { length src.now ≤ length dst.old }
     ensures { dst.new ≡ add_front dst.old src.now }

@@ -82,7 +82,8 @@ impl Mode {
     }
 }
 
-// Squeeze_more in the words that an Up left. By index: of a block that chunks_mut or a moved cursor lends, no proof knows what it is after.
+// Squeeze_more in the words that an Up left. By index: tried with chunks_mut and with a cursor of split_at_mut, `returns-clause-value` and
+// `returns-clause-out_after` stayed open, since nothing is known of a block that either lends.
 fn squeeze_words(w: State, mode: Mode, out: &mut [u8]) -> State
     ensures value { record { st = to_bytes result; mode = mode; phase = Up } ≡ squeeze_more_end (record { st = to_bytes w; mode = mode; phase = Up }) (length out.old) }
     ensures out_after { out.new ≡ squeeze_more_out (record { st = to_bytes w; mode = mode; phase = Up }) (length out.old) }
@@ -181,7 +182,7 @@ impl Duplex {
         }
     }
 
-    // A rate is one of 1, 16 and 44, and no type of its own: its callers write the number, or the mode's.
+    // A rate stays a number with its bound in each contract that hands it on: a type would be made from a number at every call, and read as one in every promise.
     pub(crate) fn absorb_more(self, bin: &[u8], rate: usize) -> Self
         requires { (0 < rate) × (rate ≤ 44) }
         ensures { result ≡ absorb_more rate self bin.now }

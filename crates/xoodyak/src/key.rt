@@ -3,7 +3,7 @@ ghost use Rattle.std.specs.Prelude.{◌+◌, ◌≤◌, length};
 ghost use Rattle.xoodyak.specs.Cyclist.{bytes_in};
 
 // What a key call absorbs: the key and t, which is the key id where one is given and the nonce otherwise; then the nonce where
-// it stands beside a key id, and the counter.
+// it stands beside a key id, and the counter. Written as a literal where the lengths were checked.
 #[derive(Clone, Copy)]
 pub struct KeyParts<'a> {
     pub key: &'a [u8],

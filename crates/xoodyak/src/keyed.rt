@@ -13,7 +13,7 @@ use crate::words::{decrypt_block, decrypt_full, encrypt_block};
 use crate::{Answer, Rule, Session};
 use xoodoo::words::{Six, permute_words};
 
-// Key, t and the length of t, at the front of 44 bytes; how many.
+// Key, t and the length of t, at the front of 44 bytes; how many. An array and a count, since there is no heap.
 fn write_iv(iv: &mut [u8], key: &[u8], t: &[u8]) -> usize
     requires { (length key.now + 1 + length t.now ≤ 44) × (length iv.old ≡ 44) }
     ensures { (result ≡ length key.now + 1 + length t.now) × (take result iv.new ≡ key.now ++ (t.now ++ (length t.now ∷ []))) }
@@ -74,7 +74,7 @@ impl Duplex {
         }
         // 80 is added once, before the loop, and every block's Up has 00
         let mut v = self.coloured(0x80);
-        // by index: of a block that chunks_mut or a moved cursor lends, no proof knows what it is after
+        // by index, as in squeeze_words of cyclist.rt; not one loop with decrypt_blocks, which is quicker with full blocks by themselves
         let mut i = 0;
         while i < n {
             let e = i + (n - i).min(24);
@@ -94,7 +94,7 @@ impl Duplex {
         }
         // 80 is added once, before the loop, and every block's Up has 00
         let mut v = self.coloured(0x80);
-        // full blocks by themselves, so that their loop holds no words for the other lengths; by index, as in encrypt_blocks
+        // full blocks by themselves, so that their loop holds no words for the other lengths; by index, as above
         let mut i = 0;
         while 24 <= n - i {
             v = decrypt_full::<Six>(permute_words(v), &mut buf[i..i + 24]);
@@ -159,7 +159,8 @@ impl Session {
             .paid(0, self.message_share(in_out.len()))
     }
 
-    // Refused, it hands back a fresh Hash session with that rule.
+    // Refused, it hands back a fresh Hash session with that rule. Flags and slices, here and in the next call: by the rules of this project an
+    // optional argument is both.
     pub fn new<'a>(
         rule: Rule,
         key: &[u8],

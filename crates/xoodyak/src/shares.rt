@@ -7,7 +7,7 @@ use crate::cyclist::{Duplex, Phase};
 use crate::key::KeyParts;
 use crate::{Rule, Session};
 
-// n divided by the rate, rounded up.
+// n divided by the rate, rounded up. A rate is a number, as in cyclist.rt.
 pub(crate) fn block_count(rate: usize, n: usize) -> usize
     requires { 0 < rate }
     ensures { result ≡ block_count rate n }
