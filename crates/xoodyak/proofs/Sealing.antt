@@ -1,5 +1,5 @@
 -- Opening as the code runs it: what was decrypted, squeezed and compared makes up the outcome, and parts of it are joined.
-use mathlib.Core.Path.{◌≡◌, refl, ap, ◌∙◌}
+use mathlib.Core.Path.{◌≡◌, refl, sym, ap, ◌∙◌}
 use mathlib.Core.Bool.{Bool, true, false}
 use mathlib.Core.List.{List, ◌++◌}
 use Prim.Native.Nat.{ℕ, ◌+◌, ◌-◌, ◌≤◌}
@@ -8,11 +8,14 @@ use native.Mathlib.Nat.{suc-ne-zero, le_refl}
 use lib.ListN.{length, replicate, take, drop, length-drop}
 use lib.Seq.{length-take-le, take_all}
 use Rattle.std.proofs.lemmas.List.{replicate-append-replicate}
+use Rattle.xoodyak.specs.declared.Answer.{Answer}
 use Rattle.xoodyak.specs.declared.Session.{Session}
+use Rattle.xoodyak.specs.Numbers.{first, keyed_number, tail_number}
 use Rattle.xoodyak.specs.Cyclist.{squeeze_end, squeeze_out}
 use Rattle.xoodyak.specs.Shares.{seal_share}
-use Rattle.xoodyak.specs.Calls.{answer_of, onward, decrypt_end, decrypt_out, tag_end, tag_out, same_bytes, verdict, opened}
+use Rattle.xoodyak.specs.Calls.{Outcome, answer_of, onward, decrypt_end, decrypt_out, tag_end, tag_out, same_bytes, verdict, opened, open_in_place_of}
 use Rattle.xoodyak.proofs.Costs.{open-share}
+use Rattle.xoodyak.proofs.Settle.{answer-taken, is_taken, tagged}
 
 -- x was decrypted to a, t squeezed and compared with u
 pub opened-is : (s a b : Session) (x t u : List ℕ) → a ≡ decrypt_end s x → b ≡ onward a (squeeze_end a.duplex 16 0x40) → t ≡ squeeze_out a.duplex 16 0x40
@@ -66,3 +69,22 @@ pub open-parts : (s : Session) (o i : List ℕ) → 16 ≤ length i → (bad : L
 open-parts s o i l bad =
     let n = length i - 16 in
     rw (take_all (length i - n) (drop n i) (rw length-drop (le_refl _)), length-take-le n i (omega arith))
+
+-- what a call that found room for a tag knows of the part for it
+pub tag-size : (s : Session) (size n : ℕ) → 0 ≡ first (keyed_number s) (tail_number size) → n ≡ size - (size - 16) → n ≡ 16
+tag-size s size n z e = let l = tagged s size z in omega arith
+
+-- ---- opening in place: the input b in its two parts, the text x and the tag t, which stays
+module _ (s : Session) (b x t : List ℕ) (z : 0 ≡ first (keyed_number s) (tail_number (length b))) (ex : x ≡ take (length b - 16) b) (et : t ≡ drop (length b - 16) b) where
+  pub in-place-value : (r : Answer) → r ≡ answer_of (opened s t x (decrypt_out s x) (replicate (length x) 0)) → r ≡ answer_of (open_in_place_of s b)
+  unfolding open_in_place_of
+  in-place-value r er = answer-taken answer_of z 0 s b (er ∙ rw (ex, et) (opened-alike s _ _ _ _ _ _))
+
+  pub in-place-bytes : (y : List ℕ) → y ≡ (opened s t x (decrypt_out s x) (replicate (length x) 0)).bytes → y ++ t ≡ (open_in_place_of s b).bytes
+  unfolding open_in_place_of
+  in-place-bytes y ey =
+      let front = length-take-le (length b - 16) b (omega arith) in
+      rw (ey, ex, et) (opened-then s _ _ _ _ _ ∙ rw front) ∙ sym (ap (λ (o : Outcome). o.bytes) (is_taken _ z 0 s b _))
+
+-- what the code of `aead_decrypt_in_place` is proved by, whatever its steps are called
+pub ruleset in_place = (tag-size, in-place-value, in-place-bytes)

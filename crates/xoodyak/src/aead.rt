@@ -3,7 +3,7 @@ ghost use Rattle.std.specs.Prelude.{◌≡◌, [], ◌++◌, ◌-◌, ◌≤◌,
 ghost use Rattle.xoodyak.specs.Cyclist.{given};
 ghost use Rattle.xoodyak.specs.Calls.{no_tag, answer_of, sealed_of, taken, encrypt_end, encrypt_out, decrypt_out, seal_ups, opened, tag_end, tag_out, seal_detached_of, seal_of, seal_in_place_detached_of, seal_in_place_of, open_detached_of, open_of, open_in_place_detached_of, open_in_place_of};
 
-use crate::bytes::{clear, or_empty, same_bytes};
+use crate::bytes::{clear, copy_into, or_empty, same_bytes};
 use crate::feed::Kind;
 use crate::numbers::has_room;
 use crate::tag::Tag;
@@ -55,7 +55,7 @@ impl Session {
         ensures out_after { out.new ≡ (opened self tag.now bin.now (decrypt_out self bin.now ++ drop (length bin.now) out.old) (replicate (length out.old) 0)).bytes }
     {
         let (text, past) = out.split_at_mut(bin.len());
-        text.copy_from_slice(bin);
+        copy_into(text, bin);
         let answer = self.open(text, tag);
         if answer.number != 0 {
             clear(past);
@@ -74,7 +74,7 @@ impl Session {
             return self.refused(refusal).sealed(Tag::default());
         }
         let text = &mut out[..n];
-        text.copy_from_slice(m);
+        copy_into(text, m);
         let mut tag = [0u8; 16];
         self.seal(text, &mut tag).sealed(Tag::from_bytes(tag))
     }
@@ -89,7 +89,7 @@ impl Session {
             return self.refused(refusal);
         }
         let (text, rest) = out.split_at_mut(n);
-        text.copy_from_slice(m);
+        copy_into(text, m);
         self.seal(text, &mut rest[..16])
     }
 
@@ -158,6 +158,7 @@ impl Session {
         self.open(in_out, &tag.bytes)
     }
 
+    #[tactic(auto, using(crate::proofs::Sealing::in_place))]
     pub fn aead_decrypt_in_place(self, in_out: &mut [u8]) -> Answer
         ensures value { result ≡ answer_of (open_in_place_of self in_out.old) }
         ensures in_out_after { in_out.new ≡ (open_in_place_of self in_out.old).bytes }

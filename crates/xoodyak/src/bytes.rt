@@ -1,4 +1,4 @@
-// Runs of bytes in lent slices: added, zeroed, compared, chosen.
+// Runs of bytes in lent slices: added, copied, zeroed, compared, chosen.
 ghost use Rattle.std.specs.Prelude.{◌≡◌, ◌≤◌, length, replicate};
 ghost use Rattle.laws.specs.Lists.{add_front};
 ghost use Rattle.xoodyak.specs.Cyclist.{given, chosen};
@@ -11,6 +11,16 @@ pub(crate) fn xor_into(dst: &mut [u8], src: &[u8])
 {
     for (i, s) in src.iter().enumerate() {
         dst[i] ^= *s;
+    }
+}
+
+// All of dst becomes src. By index: of `copy_from_slice` the compiler forgets that the two lie apart, and asks a C library for `memmove`.
+pub(crate) fn copy_into(dst: &mut [u8], src: &[u8])
+    requires { length src.now ≡ length dst.old }
+    ensures { dst.new ≡ src.now }
+{
+    for (i, s) in src.iter().enumerate() {
+        dst[i] = *s;
     }
 }
 

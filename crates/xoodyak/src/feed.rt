@@ -5,7 +5,7 @@ ghost use Rattle.xoodyak.specs.Cyclist.{squeeze_out};
 ghost use Rattle.xoodyak.specs.Calls.{answer_of, idle, both};
 ghost use Rattle.xoodyak.specs.Feed.{is_open, ups_before, place_in, block_for, close_block, open_block, run_end, run_out, feed, end_block, end_ups, ended, past_tag, finish_ups, fed_of, finished_of, begin_of, feed_of, finish_seal_of, finish_open_of};
 
-use crate::bytes::xor_into;
+use crate::bytes::{copy_into, xor_into};
 use crate::cyclist::{Duplex, Phase};
 use crate::tag::Tag;
 use crate::words::Lent;
@@ -126,7 +126,7 @@ impl Duplex {
     {
         let mut st = self.st;
         let e = place + piece.len();
-        out.copy_from_slice(piece);
+        copy_into(out, piece);
         xor_into(out, &st[place..e]);
         match kind {
             Kind::Seal => xor_into(&mut st[place..e], piece),

@@ -33,6 +33,6 @@ pub returns : goal.returns
 unfolding seal_of
 returns c = let parts = c.split_at_mut-text.ensures in
     let f = c.seal.ensures in
-    let w = c.copy_from_slice.ensures.after in
+    let w = c.copy_into.ensures in
     as_value_and_out_after (rw (← c.or_empty-m.ensures)
     (call-taken answer_of c.in_default.ensures.0 _ _ _ (f.value ∙ rw w) (rw (f.text_after, f.tag_after, w, parts.back, drop-drop 16 (length c.or_empty-m.result.now) c.args.out.now))))

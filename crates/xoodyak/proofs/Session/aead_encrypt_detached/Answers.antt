@@ -21,14 +21,14 @@ slice_bounds-text-end-2 c =
     let room = roomy c.args.self _ _ c.in_default.ensures.0 in
     search rules
 
-pub copy_from_slice-requires : goal.copy_from_slice-requires
-copy_from_slice-requires c =
+pub copy_into-requires : goal.copy_into-requires
+copy_into-requires c =
     let room = roomy c.args.self _ _ c.in_default.ensures.0 in
     simp length-take (omega arith)
 
 pub returns : goal.returns
 unfolding seal_detached_of
 returns c = let f = c.seal.ensures in
-    let w = c.copy_from_slice.ensures.after in
+    let w = c.copy_into.ensures in
     as_value_and_out_after (rw (← c.or_empty-m.ensures)
     (call-taken sealed_of c.in_default.ensures.0 _ _ _ (c.sealed-2.ensures ∙ rw (c.from_bytes.ensures, f.value, f.tag_after, w)) (rw (f.text_after, w))))

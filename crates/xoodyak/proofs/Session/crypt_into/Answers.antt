@@ -20,8 +20,8 @@ slice_bounds-text-end-2 c =
     let room = roomy c.args.self _ _ c.in_default.ensures.0 in
     search rules
 
-pub copy_from_slice-requires : goal.copy_from_slice-requires
-copy_from_slice-requires c =
+pub copy_into-requires : goal.copy_into-requires
+copy_into-requires c =
     let room = roomy c.args.self _ _ c.in_default.ensures.0 in
     simp length-take (omega arith)
 
@@ -30,5 +30,5 @@ returns c = as_value_and_out_after (let a = c.args in
     let f = c.crypt in
     rw (← crypt-is a.self a.bin.now a.kind a.out.now)
     (call-taken answer_of c.in_default.ensures.0 _ _ _
-    (rw (c.paid.ensures, f.ensures.value, c.copy_from_slice.ensures.after, c.message_share.ensures))
-    (rw (f.ensures.buf_after, c.copy_from_slice.ensures.after))))
+    (rw (c.paid.ensures, f.ensures.value, c.copy_into.ensures, c.message_share.ensures))
+    (rw (f.ensures.buf_after, c.copy_into.ensures))))

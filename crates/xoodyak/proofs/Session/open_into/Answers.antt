@@ -15,8 +15,8 @@ returns-then-answer-ne0 c = let a = c.args in
     let o = c.open-answer.ensures in
     let good = decrypt_out a.self a.bin.now in
     let n = opened a.self a.tag.now a.bin.now good (replicate (length a.bin.now) 0) in
-    let v : c.open-answer.result ≡ answer_of n = o.value ∙ rw c.copy_from_slice.ensures.after in
-    let t : c.open-answer.new.text ≡ n.bytes = o.text_after ∙ rw c.copy_from_slice.ensures.after in
+    let v : c.open-answer.result ≡ answer_of n = o.value ∙ rw c.copy_into.ensures in
+    let t : c.open-answer.new.text ≡ n.bytes = o.text_after ∙ rw c.copy_into.ensures in
     let k = λ (z : n.number ≡ 0). c.if-answer-ne0.true (ap (λ (y : Answer). y.number) v ∙ z) in
     record {
       value = v ∙ opened-alike a.self a.tag.now a.bin.now good _ _ _;
@@ -29,8 +29,8 @@ returns-else-answer-ne0 c = let a = c.args in
     let o = c.open-answer.ensures in
     let good = decrypt_out a.self a.bin.now in
     let n = opened a.self a.tag.now a.bin.now good (replicate (length a.bin.now) 0) in
-    let v : c.open-answer.result ≡ answer_of n = o.value ∙ rw c.copy_from_slice.ensures.after in
-    let t : c.open-answer.new.text ≡ n.bytes = o.text_after ∙ rw c.copy_from_slice.ensures.after in
+    let v : c.open-answer.result ≡ answer_of n = o.value ∙ rw c.copy_into.ensures in
+    let t : c.open-answer.new.text ≡ n.bytes = o.text_after ∙ rw c.copy_into.ensures in
     let z : n.number ≡ 0 = sym (ap (λ (y : Answer). y.number) v) ∙ c.if-answer-ne0.false in
     record {
       value = v ∙ opened-alike a.self a.tag.now a.bin.now good _ _ _;

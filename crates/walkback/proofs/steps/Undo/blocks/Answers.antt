@@ -4,10 +4,8 @@ use native.Mathlib.Omega.{arith}
 use lib.ListN.{length}
 use Rattle.std.specs.Iterator.Adapters.{rev_source, enumerate_source}
 use Rattle.std.specs.Slice.Iter.{chunks_rest, chunks_size, chunk_count}
-use Rattle.laws.specs.Blocks.{cuts}
-use Rattle.walkback.proofs.Undoing.{colour_after, colour-first, colour-other, blocks-turn, blocks-turned}
+use Rattle.walkback.proofs.Undoing.{colour-first, colour-other, blocks-turn, blocks-turned}
 use Rattle.walkback.proofs.steps.Undo.blocks.Goals as goal
-use Rattle.walkback.proofs.steps.Undo.blocks.Goals.{then-i-eq0, else-i-eq0}
 
 pub loop-i-preserved : goal.loop-i-preserved
 loop-i-preserved c =
@@ -18,11 +16,12 @@ loop-i-preserved c =
     let front = chunks_rest (enumerate_source (rev_source c.next.new.self)) in
     let size : chunks_size (enumerate_source (rev_source c.next.new.self)) ≡ a.rate = cut.0 ∙ l.invariant.size in
     let before : c.in-Some.i ≡ chunk_count (length front) a.rate = step.1.1 ∙ rw (l.invariant.count, size) (omega arith) in
-    let colour : c.if-i-eq0.colour ≡ colour_after a.cu (cuts a.rate front) = elim c.if-i-eq0.branch [ then-i-eq0 w ↦ w.colour-is ∙ colour-first a.cu a.rate c.in-Some.i front (omega arith) before w.if-i-eq0.true | else-i-eq0 w ↦ w.colour-is ∙ colour-other a.cu a.rate c.in-Some.i front (omega arith) before (omega arith) ] in
+    let first = colour-first a.cu a.rate c.in-Some.i front (omega arith) before in
+    let other = colour-other a.cu a.rate c.in-Some.i front (omega arith) before in
     record {
       size = size;
       count = step.0 ∙ l.invariant.count;
-      undone = blocks-turn a.cu a.rate _ _ front c.in-Some.x.now l.self _ (omega arith) cut.1.0 cut.1.2 (rw (← l.invariant.size) cut.1.1) colour c.block.ensures ∙ l.invariant.undone;
+      undone = blocks-turn a.cu a.rate _ _ front c.in-Some.x.now l.self _ (omega arith) cut.1.0 cut.1.2 (rw (← l.invariant.size) cut.1.1) (grind (arith, first, other)) c.block.ensures ∙ l.invariant.undone;
     }
 
 pub returns : goal.returns

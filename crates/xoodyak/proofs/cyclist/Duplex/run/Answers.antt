@@ -18,7 +18,7 @@ returns-in-Seal c =
     let a = c.args in
     let l : length a.self.st ≡ 48 = search rules in
     let inside : a.place + length a.piece.now ≤ length a.self.st = omega (arith, c.requires.1) in
-    let wrote = c.xor_into.ensures ∙ rw c.copy_from_slice.ensures.after in
+    let wrote = c.xor_into.ensures ∙ rw c.copy_into.ensures in
     record {
       value = part_end _ a.place _ a.self a.piece.now refl inside (told Seal _ _ _ a.piece.now c.in-Seal.is refl) c.xor_into-in-Seal.ensures;
       out_after = part_out _ a.place _ a.self a.piece.now refl inside wrote;
@@ -29,7 +29,7 @@ returns-in-Open c =
     let a = c.args in
     let l : length a.self.st ≡ 48 = search rules in
     let inside : a.place + length a.piece.now ≤ length a.self.st = omega (arith, c.requires.1) in
-    let wrote = c.xor_into.ensures ∙ rw c.copy_from_slice.ensures.after in
+    let wrote = c.xor_into.ensures ∙ rw c.copy_into.ensures in
     record {
       value = part_end _ a.place _ a.self a.piece.now refl inside (told Open _ _ _ _ c.in-Open.is wrote) c.xor_into-in-Open.ensures;
       out_after = part_out _ a.place _ a.self a.piece.now refl inside wrote;
