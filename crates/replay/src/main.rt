@@ -5,22 +5,25 @@ mod aead_lines;
 mod back_lines;
 mod buffer_lines;
 mod feed_lines;
+mod out;
 mod runner;
 mod session_lines;
 mod show;
 mod words;
 mod xoodoo_lines;
 
+use out::Out;
 use runner::Runner;
 use std::io;
-use std::io::{BufReader, BufWriter, Read};
+use std::io::{BufReader, Read};
 use words::LONGEST;
 
 fn main(rt: HostRuntime) -> io::Result<()> {
     let alloc = rt.alloc();
-    let mut runner = Runner::new(alloc, BufWriter::new(alloc, io::writer(&rt))?);
-    let mut line = Vec::new(alloc);
-    for b in BufReader::new(alloc, rt.reader())?.bytes() {
+    let input = BufReader::new(alloc, rt.reader())?;
+    let mut runner = Runner::new(alloc, Out::new(alloc, io::writer(&rt))?);
+    let mut line = Vec::with_capacity(alloc, LONGEST + 1)?;
+    for b in input.bytes() {
         match b? {
             b'\n' => {
                 runner.answer(line.as_slice())?;

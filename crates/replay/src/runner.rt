@@ -69,7 +69,8 @@ impl<W: Write> Runner<W> {
         }
         // Every form is in ASCII.
         let text = str::from_utf8(line).map_err(|_| Fault::Bad)?;
-        let words: Vec<&str> = text.split(' ').collect(self.alloc)?;
+        // No form has more than seven words, so that one more, which keeps the rest, spoils the line.
+        let words: Vec<&str> = text.splitn(8, ' ').collect(self.alloc)?;
         self.answer_words(words.as_slice())
     }
 

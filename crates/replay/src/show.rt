@@ -1,7 +1,41 @@
 // What answers are printed as.
+ghost use Rattle.std.specs.Prelude.{◌<◌, ◌≤◌, length};
+ghost use Rattle.std.specs.Str.{IsAscii};
+
 use std::fmt;
 use xoodyak::Rule;
 use xoodyak::cyclist::{Mode, Phase};
+
+// The digit of the low half.
+fn digit(value: u8) -> u8
+    ensures { result < 128 }
+{
+    match value % 16 {
+        low @ 0..=9 => b'0' + low,
+        low => b'a' + (low - 10),
+    }
+}
+
+// Two digits for each byte, and zeros after them; a format's `{:02x}` for each takes several times as long.
+fn digits(bytes: &[u8]) -> [u8; 128]
+    requires { length bytes.now ≤ 64 }
+    ensures { IsAscii result }
+{
+    let mut text = [b'0'; 128];
+    for (i, b) in bytes.iter().enumerate() {
+        text[2 * i] = digit(*b / 16);
+        text[2 * i + 1] = digit(*b);
+    }
+    text
+}
+
+// Unchecked, since digits are ASCII: a check would have to answer for a text that is none.
+fn write_digits<W: fmt::Write>(f: &mut fmt::Formatter<W>, bytes: &[u8]) -> fmt::Result
+    requires { length bytes.now ≤ 64 }
+{
+    let text = digits(bytes);
+    f.write_str(unsafe { str::from_utf8_unchecked(&text[..2 * bytes.len()]) })
+}
 
 // Bytes in hexadecimal, and a point for none.
 #[derive(Clone, Copy)]
@@ -12,8 +46,8 @@ impl fmt::Display for Hex<'_> {
         if self.0.is_empty() {
             return write!(f, ".");
         }
-        for b in self.0 {
-            write!(f, "{b:02x}")?;
+        for part in self.0.chunks(64) {
+            write_digits(f, part)?;
         }
         Ok(())
     }

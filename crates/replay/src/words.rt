@@ -1,5 +1,5 @@
 // The words of a line, read as numbers, bytes and names.
-ghost use Rattle.std.specs.Prelude.{◌<◌, IfSome};
+ghost use Rattle.std.specs.Prelude.{◌<◌, ◌≤◌, IfOk, IfSome, length};
 
 use std::alloc::{AllocError, Global};
 use std::io;
@@ -50,7 +50,9 @@ fn byte(digits: &[u8]) -> Option<u8> {
 }
 
 // Bytes in hexadecimal, and a point for none.
-pub fn bytes(alloc: Global, word: &str) -> Result<Vec<u8>, Fault> {
+pub fn bytes(alloc: Global, word: &str) -> Result<Vec<u8>, Fault>
+    ensures { IfOk result (λ bytes. length bytes.items ≤ 16384) }
+{
     if word.is_empty() || word.len() > 2 * MOST {
         return Err(Fault::Bad);
     }
@@ -76,7 +78,9 @@ pub struct Argument {
     pub bytes: Vec<u8>,
 }
 
-pub fn optional(alloc: Global, word: &str) -> Result<Argument, Fault> {
+pub fn optional(alloc: Global, word: &str) -> Result<Argument, Fault>
+    ensures { IfOk result (λ a. length a.bytes.items ≤ 16384) }
+{
     match word.strip_prefix('-') {
         Some("") => Ok(Argument {
             given: false,
@@ -102,7 +106,12 @@ pub struct KeyWords {
     pub counter: Argument,
 }
 
-pub fn key_words(alloc: Global, words: &[&str]) -> Result<KeyWords, Fault> {
+pub fn key_words(alloc: Global, words: &[&str]) -> Result<KeyWords, Fault>
+    ensures key_in_bounds { IfOk result (λ w. length w.key.items ≤ 16384) }
+    ensures second_in_bounds { IfOk result (λ w. length w.second.bytes.items ≤ 16384) }
+    ensures third_in_bounds { IfOk result (λ w. length w.third.bytes.items ≤ 16384) }
+    ensures counter_in_bounds { IfOk result (λ w. length w.counter.bytes.items ≤ 16384) }
+{
     let [key, second, third, counter] = words else {
         return Err(Fault::Bad);
     };
@@ -123,12 +132,16 @@ pub fn decimal(word: &str) -> Result<usize, Fault> {
 }
 
 // A buffer that the line gives by its length.
-pub fn room(alloc: Global, word: &str) -> Result<Vec<u8>, Fault> {
+pub fn room(alloc: Global, word: &str) -> Result<Vec<u8>, Fault>
+    ensures { IfOk result (λ buf. length buf.items ≤ 16384) }
+{
     Ok(vec![in alloc; 0xa5; length(word)?]?)
 }
 
 // The length of a buffer.
-pub fn length(word: &str) -> Result<usize, Fault> {
+pub fn length(word: &str) -> Result<usize, Fault>
+    ensures { IfOk result (λ n. n ≤ 16384) }
+{
     let n = decimal(word)?;
     if n > MOST {
         return Err(Fault::Bad);
