@@ -19,4 +19,12 @@ for file in sorted(p for f in ('specs', 'proofs') for p in pathlib.Path('crates'
         for name in set(line.split()) & brought & set(names):
             print('%s: opens `%s` of the permutation' % (file, name))
             bad = True
+# a function may open definitions by its attribute
+for file in sorted(pathlib.Path('crates').glob('*/src/**/*.rt')):
+    if file.parts[1] in ('laws', 'xoodoo', 'theorems'):
+        continue
+    for opened in re.findall(r'unfolding\(([^)]*)\)', file.read_text()):
+        for name in set(re.findall(r'xoodoo::specs::Xoodoo::(\S+?)\s*(?:,|$)', opened)) & set(names):
+            print('%s: opens `%s` of the permutation' % (file, name))
+            bad = True
 sys.exit(bad)
