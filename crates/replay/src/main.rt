@@ -20,10 +20,9 @@ use words::LONGEST;
 
 fn main(rt: HostRuntime) -> io::Result<()> {
     let alloc = rt.alloc();
-    let input = BufReader::new(alloc, rt.reader())?;
-    let mut runner = Runner::new(alloc, Out::new(alloc, io::writer(&rt))?);
+    let mut runner = Runner::new(alloc, Out::new(io::writer(&rt)));
     let mut line = Vec::with_capacity(alloc, LONGEST + 1)?;
-    for b in input.bytes() {
+    for b in BufReader::new(alloc, rt.reader())?.bytes() {
         match b? {
             b'\n' => {
                 runner.answer(line.as_slice())?;

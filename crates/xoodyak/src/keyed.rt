@@ -39,7 +39,7 @@ impl Duplex {
         }
     }
 
-    // The key call. In its two callers' own code, since called it takes a third of the time of a short key.
+    // The key call. In its two callers' own code, since called it takes a third more instructions for a short key.
     #[inline(always)]
     pub(crate) fn key_call(self, parts: KeyParts) -> Self
         ensures { result ≡ absorb_given 1 (absorb_given 44 (absorb 44 2 self (parts.entry.key.now ++ (parts.entry.t.now ++ (length parts.entry.t.now ∷ [])))) parts.entry.nonce) parts.entry.counter }
