@@ -16,7 +16,7 @@ fn digit(value: u8) -> u8
     }
 }
 
-// Two digits for each byte, and zeros after them; a format's `{:02x}` for each takes several times as long.
+// Two digits for each byte, and zeros after them; a format's `{:02x}` for each takes several times the instructions.
 fn digits(bytes: &[u8]) -> [u8; 128]
     requires { length bytes.now ≤ 64 }
     ensures { IsAscii result }

@@ -27,7 +27,7 @@ fn write_iv(iv: &mut [u8], key: &[u8], t: &[u8]) -> usize
 }
 
 impl Duplex {
-    // Absorbs an optional slice.
+    // Absorbs an optional slice, in the key call's own code.
     #[inline(always)]
     fn absorb_given(self, rate: usize, x: Option<&[u8]>) -> Self
         requires { (0 < rate) × (rate ≤ 44) }
